@@ -1,0 +1,7 @@
+mod Decoding
+mod Encoding
+mod Fronts
+mod Least
+mod Reading
+mod Running
+mod Writing
