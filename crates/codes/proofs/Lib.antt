@@ -4,4 +4,5 @@ mod Fronts
 mod Least
 mod Reading
 mod Running
+pub mod Stretches
 mod Writing

@@ -1,6 +1,7 @@
 // Running sums over records, one text for every kind of record that has a measure.
 ghost use mathlib.Core.Path.{_≡_};
-ghost use Prim.Native.Nat.{ℕ};
+ghost use Prim.Native.Nat.{ℕ, _*_, _≤_};
+ghost use lib.ListN.{length};
 ghost use Rattle.codes.specs.Sums.{runningSum, passingIndex};
 
 // A record that stands for a number of codes.
@@ -21,7 +22,8 @@ pub struct Passing {
 // The sum of the measures of the first `n` records, of all where there are fewer. One pass.
 // No list is long enough for the sum to pass 128 bits.
 pub fn running_sum<R: Measured>(records: &[R], n: usize) -> u128
-    ensures { λ r. ⌜ r ≡ runningSum (R·Measured .size) (now (records .entry)) n ⌝ }
+    ensures value { λ r. ⌜ r ≡ runningSum (R·Measured .size) (now (records .entry)) n ⌝ }
+    ensures bound { λ r. ⌜ r ≤ 4294967295 * length (now (records .entry)) ⌝ }
 {
     let front = &records[0..n.min(records.len())];
     let mut sum = 0u128;

@@ -1,0 +1,4 @@
+pub mod Maps
+pub mod Changes
+pub mod Pieces
+pub mod Marks
