@@ -25,9 +25,9 @@ use view::rows::row_from;
 use view::view::View;
 
 // Folds over hints over a gap buffer.
-type Pile<'a> = Layer<Layer<Bare<GapBuffer<'a>>, Hints>, Folds>;
+type Layered<'a> = Layer<Layer<Bare<GapBuffer<'a>>, Hints>, Folds>;
 
-// The steps from the top of the pile to its layers.
+// The steps from the top of the view to its layers.
 const FOLDS: u32 = 0;
 
 const HINTS: u32 = 1;
@@ -64,19 +64,19 @@ fn place_of(heap: Global, document: &GapBuffer, word: &str) -> Result<u32, AnyEr
 // Prints the row that begins at `u`, with the line of the document it begins in, and answers how long it is.
 fn show_row<V: View>(
     rt: &LibcRuntime,
-    pile: &V,
+    view: &V,
     document: &GapBuffer,
     u: u32,
 ) -> Result<u32, AnyError>
-    requires { ⌜ V·View .sound (now pile) ⌝ }
+    requires { ⌜ V·View .sound (now view) ⌝ }
 {
-    let Ok(row) = row_from(rt.alloc(), pile, u) else {
+    let Ok(row) = row_from(rt.alloc(), view, u) else {
         return Err("no memory for a row".into());
     };
     let Ok(text) = encode_text(rt.alloc(), row.as_slice()) else {
         return Err("no memory for a text".into());
     };
-    let Ok(place) = pile.under(u) else {
+    let Ok(place) = view.under(u) else {
         return Err("no such place".into());
     };
     let Ok(line) = line_at(document, place) else {
@@ -87,16 +87,16 @@ fn show_row<V: View>(
     Ok(u32::try_from(row.len())?)
 }
 
-fn show_rows<V: View>(rt: &LibcRuntime, pile: &V, document: &GapBuffer) -> Result<(), AnyError>
-    requires { ⌜ V·View .sound (now pile) ⌝ }
+fn show_rows<V: View>(rt: &LibcRuntime, view: &V, document: &GapBuffer) -> Result<(), AnyError>
+    requires { ⌜ V·View .sound (now view) ⌝ }
 {
-    let len = pile.len();
+    let len = view.len();
     let mut u = 0u32;
     for _ in 0..u64::from(len) + 1 {
         if u > len {
             break;
         }
-        let row = show_row(rt, pile, document, u)?;
+        let row = show_row(rt, view, document, u)?;
         u = u.saturating_add(row).saturating_add(1);
     }
     Ok(())
@@ -125,9 +125,9 @@ fn show_answer(
 }
 
 // Puts the hint in and folds, and has one order refused.
-fn arrange<V: View>(rt: &LibcRuntime, pile: &mut V, document: &GapBuffer) -> Result<(), AnyError>
-    requires { ⌜ V·View .sound (now pile) ⌝ }
-    ensures { λ _. ⌜ V·View .sound (now (pile .exit)) ⌝ }
+fn arrange<V: View>(rt: &LibcRuntime, view: &mut V, document: &GapBuffer) -> Result<(), AnyError>
+    requires { ⌜ V·View .sound (now view) ⌝ }
+    ensures { λ _. ⌜ V·View .sound (now (view .exit)) ⌝ }
 {
     let hint = codes_of(rt.alloc(), " (depth)")?;
     let behind = place_of(rt.alloc(), document, " R2.")?;
@@ -138,16 +138,16 @@ fn arrange<V: View>(rt: &LibcRuntime, pile: &mut V, document: &GapBuffer) -> Res
         x: behind,
         y: 0,
     };
-    let answer = pile.order(HINTS, add, hint.as_slice());
+    let answer = view.order(HINTS, add, hint.as_slice());
     show_answer(rt, "hint", answer)?;
     let fold = Order {
         verb: 'f',
         x: from,
         y: to,
     };
-    let answer = pile.order(FOLDS, fold, &[]);
+    let answer = view.order(FOLDS, fold, &[]);
     show_answer(rt, "fold", answer)?;
-    let answer = pile.order(FOLDS, fold, &[]);
+    let answer = view.order(FOLDS, fold, &[]);
     show_answer(rt, "fold again", answer)
 }
 
@@ -157,9 +157,9 @@ fn run(rt: &LibcRuntime) -> Result<(), AnyError> {
     let n = cells.len();
     let document = open(copy.as_mut_slice(), n).buffer;
     let store = open(cells.as_mut_slice(), n).buffer;
-    let mut pile = Pile::open(store);
-    arrange(rt, &mut pile, &document)?;
-    show_rows(rt, &pile, &document)
+    let mut view = Layered::open(store);
+    arrange(rt, &mut view, &document)?;
+    show_rows(rt, &view, &document)
 }
 
 fn main(rt: LibcRuntime) -> Result<(), AnyError> {
