@@ -1,4 +1,6 @@
 // Where a document lies: what every buffer answers and refuses, and two buffers that keep it in cells.
+#![tactic(auto)]
+
 pub mod buffer;
 pub mod fault;
 pub mod fixed_buffer;

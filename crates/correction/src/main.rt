@@ -1,5 +1,7 @@
 // A setter's correction: opens a part program in a gap buffer, replaces a wrong boring depth, and shows the line before
 // and after; then tries an edit that no document takes, and shows that it changed nothing.
+#![tactic(auto)]
+
 use anyhow::anyhow;
 use buffer::buffer::Buffer;
 use buffer::fault::BufferFault;

@@ -1,2 +1,4 @@
 // A layer of any kind over any view.
+#![tactic(auto)]
+
 pub mod layer;

@@ -1,4 +1,6 @@
 // The kinds of layers that go through the text below line by line: tab stops and soft wrap.
+#![tactic(auto)]
+
 pub mod breaking;
 pub mod scan;
 pub mod tabs;

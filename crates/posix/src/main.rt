@@ -4,6 +4,8 @@
 // Standard input comes in blocks. A line `t N` begins a block for tab stops, a line `w N` one for soft wrap, N being the
 // width; the lines behind it that begin with `|` are its text, without the `|`. Of each block the rows of the view are
 // printed.
+#![tactic(auto)]
+
 use anyhow::anyhow;
 use buffer::buffer::Buffer;
 use buffer::fixed_buffer::FixedBuffer;

@@ -1,5 +1,7 @@
 // A part program as a setter sees it on a narrow screen: a hint behind a depth, a fold over the tool change, tab stops and
 // soft wrap, each row with the document line that it begins in, and orders that are refused.
+#![tactic(auto)]
+
 use anyhow::anyhow;
 use buffer::buffer::Buffer;
 use buffer::gap_buffer::{GapBuffer, open};

@@ -1,4 +1,6 @@
 // Layers over buffers and over each other, by examples: a crate of tests.
+#![tactic(auto)]
+
 #[cfg(test)]
 mod checks;
 #[cfg(test)]

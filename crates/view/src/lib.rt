@@ -1,4 +1,6 @@
 // What is shown of a document: views, the layers that rewrite one, and what they refuse.
+#![tactic(auto)]
+
 pub mod bare;
 pub mod fault;
 pub mod kind;
