@@ -8,7 +8,7 @@ loop-at-smaller c = read_less c.args.bytes.now c.loop-at.at _ c.loop-at.invarian
 
 pub loop-at-preserved : goal.loop-at-preserved
 loop-at-preserved c =
-    let items = pushed (c.in-Code.code ∷ []) refl c.in-ok-push.was c.push.ensures.items in
+    let items = pushed (c.in-Code.code ∷ []) refl c.in_ok-push-in-Code.was c.push.ensures.items in
     read_more c.args.bytes.now c.loop-at.at _ c.loop-at.invariant c.in-Code.code c.in-Code.len _ c.in-Code.ensures.tells items
 
 pub returns-in-Bad : goal.returns-in-Bad

@@ -9,7 +9,7 @@ returns-in-None c = (unwritten c.args.codes.now c.loop-at.at _ c.loop-at.invaria
 
 pub loop-at-preserved : goal.loop-at-preserved
 loop-at-preserved c =
-    let bytes = pushed (encode c.in-Some.letter) refl c.in-ok-push.was c.push.ensures.bytes in
+    let bytes = pushed (encode c.in-Some.letter) refl c.in_ok-push-in-Some.was c.push.ensures.bytes in
     written_more c.args.codes.now c.loop-at.at _ c.loop-at.invariant c.in-Some.letter _ (omega arith) c.in-Some.ensures.value bytes
 
 pub returns : goal.returns

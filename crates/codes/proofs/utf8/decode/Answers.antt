@@ -6,12 +6,6 @@ use Rattle.codes.specs.declared.utf8.Decoded.TheVariants.{Bad}
 use Rattle.codes.proofs.Decoding.{tells_of, read_lead, read_bad}
 use Rattle.codes.proofs.utf8.decode.Goals as goal
 
-pub returns-in-default : goal.returns-in-default
-returns-in-default c =
-    let short : length c.args.bytes.now < 1 = search rules in
-    let none : c.args.bytes.now ≡ [] = nil_from_length c.args.bytes.now (omega arith) in
-    record { value = sym (ap decoded none); tells = none }
-
 pub returns-in-Some : goal.returns-in-Some
 returns-in-Some c =
     let bs = c.args.bytes.now in

@@ -8,10 +8,10 @@ overflow-add-result g c =
     let e = g.V.View in
     let v = c.args.view.now in
     let few = ends_few e.most (e.stack v) (e.doc v) (g.met.V.View.means v c.requires) in
-    omega (arith, few c.len.result, c.ends-before.ensures)
+    omega (arith, few c.len.result, c.ends_before.ensures)
 
 pub returns : goal.returns
 returns g c =
     let t = textAt g.V.View c.args.view.now in
     let all = ends_all t c.len.result (omega (arith, c.len.ensures)) in
-    omega (arith, all, c.ends-before.ensures, rows_counted t)
+    omega (arith, all, c.ends_before.ensures, rows_counted t)

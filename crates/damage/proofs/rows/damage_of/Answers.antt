@@ -9,21 +9,21 @@ overflow-add-first g c =
     let e = g.V.View in
     let v = c.args.view.now in
     let few = ends_few e.most (e.stack v) (e.doc v) (g.met.V.View.means v c.requires) in
-    omega (arith, few c.args.change.start, few c.len.result, c.ends-before-first.ensures, c.ends-between-behind.ensures)
+    omega (arith, few c.args.change.start, few c.len.result, c.ends_before-first.ensures, c.ends_between-behind.ensures)
 
 pub overflow-add-result : goal.overflow-add-result
 overflow-add-result g c =
     let e = g.V.View in
     let v = c.args.view.now in
     let few = ends_few e.most (e.stack v) (e.doc v) (g.met.V.View.means v c.requires) in
-    omega (arith, few c.saturating-add-past.result, c.ends-between-inside.ensures)
+    omega (arith, few c.saturating_add-past.result, c.ends_between-inside.ensures)
 
 pub returns : goal.returns
 returns g c =
     let e = g.V.View in
     let v = c.args.view.now in
     let few = codes_few e.most (e.stack v) (e.doc v) (g.met.V.View.means v c.requires) in
-    damage_counted (textAt e v) c.args.rows-before c.args.change c.saturating-add-past.result c.len.result
-    c.ends-between-inside.result c.ends-between-behind.result _ (omega (arith, few))
-    c.saturating-add-past.ensures c.len.ensures c.ends-between-inside.ensures c.ends-between-behind.ensures
-    c.ends-before-first.ensures c.saturating-sub.ensures refl
+    damage_counted (textAt e v) c.args.rows_before c.args.change c.saturating_add-past.result c.len.result
+    c.ends_between-inside.result c.ends_between-behind.result _ (omega (arith, few))
+    c.saturating_add-past.ensures c.len.ensures c.ends_between-inside.ensures c.ends_between-behind.ensures
+    c.ends_before-first.ensures c.saturating_sub.ensures refl

@@ -21,12 +21,12 @@ loop-i-preserved g c =
     let i = c.loop-i.i in
     let inside : i < length t = omega (arith, c.len.ensures, c.min-i-end.ensures) in
     let count = c.loop-i.invariant.1 in
-    elim c.if-is-row-end.branch [
+    elim c.if-is_row_end.branch [
       | then-is-row-end w ↦
-          let is-end : is_row_end (get_or t i 0) ≡ true = ap is_row_end (sym c.code-at.ensures) ∙ sym w.if-is-row-end.ensures in
+          let is-end : is_row_end (get_or t i 0) ≡ true = ap is_row_end (sym c.code_at.ensures) ∙ sym w.if-is-row-end.ensures in
           (omega arith, omega (arith, w.ends-is, ends_here t i inside is-end))
       | else-is-row-end w ↦
-          let no_end : is_row_end (get_or t i 0) ≡ false = ap is_row_end (sym c.code-at.ensures) ∙ sym w.if-is-row-end.ensures in
+          let no_end : is_row_end (get_or t i 0) ≡ false = ap is_row_end (sym c.code_at.ensures) ∙ sym w.if-is-row-end.ensures in
           (omega arith, omega (arith, w.ends-is, ends_same t i inside no_end))
     ]
 

@@ -6,7 +6,7 @@ use Rattle.document.proofs.stretch.stretch.Goals as goal
 pub loop-i-preserved : goal.loop-i-preserved
 loop-i-preserved g c =
     let e = c.in-Ok.ensures in
-    (omega arith, stretch_more _ _ _ c.args.from c.loop-i.i c.in-Ok.code (omega arith) e.0 e.1 c.loop-i.invariant.1 (c.push.ensures.items ∙ cond-true _ _ _ c.if-is-err.ensures.negation))
+    (omega arith, stretch_more _ _ _ c.args.from c.loop-i.i c.in-Ok.code (omega arith) e.0 e.1 c.loop-i.invariant.1 (c.push.ensures.items ∙ cond-true _ _ _ c.if-is_err.ensures.negation))
 
 pub returns : goal.returns
 returns g c =

@@ -19,8 +19,8 @@ returns g c =
     c.find-k.ensures inside (c.index-records-k.is ∙ ap (λ (z : List g.row.R.Denot). get_or z c.find-k.result c.index-records-k.result) same) c.remove.ensures.made c.remove.ensures.records in (
       no_cause (gone_causes (sought_by c.args.sought) ms c.args.x) (ap not gone.0, tt),
       gone.2,
-      gone_change_lem (sought_by c.args.sought) ms (g.R.Record.mark c.index-records-k.result) c.place.result c.place-2.result c.first-over-start.result c.shown.result c.past.result
-          gone.0 gone.1 c.place.ensures c.place-2.ensures c.shown.ensures c.past.ensures c.first-over-start.ensures,
+      gone_change_lem (sought_by c.args.sought) ms (g.R.Record.mark c.index-records-k.result) c.place.result c.place-2.result c.first_over-start.result c.shown.result c.past.result
+          gone.0 gone.1 c.place.ensures c.place-2.ensures c.shown.ensures c.past.ensures c.first_over-start.ensures,
     )
 
 pub returns-then-k-records : goal.returns-then-k-records

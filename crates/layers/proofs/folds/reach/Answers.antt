@@ -10,12 +10,12 @@ loop-record-init g c = reached_none c.args.change.start c.args.change.old (map g
 
 pub loop-record-preserved : goal.loop-record-preserved
 loop-record-preserved g c =
-    elim c.if-is-dropped.branch [
+    elim c.if-is_dropped.branch [
       | then-is-dropped w ↦
-          next_gone g.R.Record.mark c.args.change.start c.args.change.old (map g.R.Record.mark c.records-records.result.now) c.records-records.result.now c.loop-record.record-index c.record-item.result c.loop-record.low c.loop-record.high c.loop-record-test.true c.record-item.is c.loop-record.invariant c.if-is-dropped.low c.if-is-dropped.high
+          next_gone g.R.Record.mark c.args.change.start c.args.change.old (map g.R.Record.mark c.records-records.result.now) c.records-records.result.now c.loop-record.record-index c.record-item.result c.loop-record.low c.loop-record.high c.loop-record-test.true c.record-item.is c.loop-record.invariant c.if-is_dropped.low c.if-is_dropped.high
           (sym w.if-is-dropped.ensures) (w.low-is ∙ w.min-low.ensures ∙ ap (min c.loop-record.low) w.place.ensures) (w.high-is ∙ w.max-high.ensures ∙ ap (max c.loop-record.high) w.past.ensures)
       | else-is-dropped w ↦
-          next_kept g.R.Record.mark c.args.change.start c.args.change.old (map g.R.Record.mark c.records-records.result.now) c.records-records.result.now c.loop-record.record-index c.record-item.result c.loop-record.low c.loop-record.high c.loop-record-test.true c.record-item.is c.loop-record.invariant c.if-is-dropped.low c.if-is-dropped.high
+          next_kept g.R.Record.mark c.args.change.start c.args.change.old (map g.R.Record.mark c.records-records.result.now) c.records-records.result.now c.loop-record.record-index c.record-item.result c.loop-record.low c.loop-record.high c.loop-record-test.true c.record-item.is c.loop-record.invariant c.if-is_dropped.low c.if-is_dropped.high
           (sym w.if-is-dropped.ensures) w.low-is w.high-is
     ]
 

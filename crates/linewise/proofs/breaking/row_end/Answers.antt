@@ -19,31 +19,31 @@ loop-i-init g c =
     let P : ℕ → Type 0 = λ j. InRow c.args.width t c.args.start j c.args.start in
     subst P none (in_row_none c.args.width t c.args.start (omega arith))
 
-pub returns-then-is-row-end : goal.returns-then-is-row-end
-returns-then-is-row-end g c =
+pub returns-then-is_row_end : goal.returns-then-is_row_end
+returns-then-is_row_end g c =
     let t = textAt g.V.View c.args.below.now in
-    let ends : is_row_end (get_or t c.loop-i.i 0) ≡ true = ap is_row_end (sym c.code-at-code.ensures) ∙ sym c.if-is-row-end.ensures in
+    let ends : is_row_end (get_or t c.loop-i.i 0) ≡ true = ap is_row_end (sym c.code_at-code.ensures) ∙ sym c.if-is_row_end.ensures in
     sym (row_closed_at c.args.width t c.args.start c.loop-i.i c.loop-i.spaced (omega arith) c.loop-i.invariant (rest_here t c.loop-i.i (omega arith) ends))
 
 pub returns-then-spaced-start : goal.returns-then-spaced-start
 returns-then-spaced-start g c =
     let t = textAt g.V.View c.args.below.now in
-    let goes : is_row_end (get_or t c.loop-i.i 0) ≡ false = ap is_row_end (sym c.code-at-code.ensures) ∙ sym c.if-is-row-end.ensures in
+    let goes : is_row_end (get_or t c.loop-i.i 0) ≡ false = ap is_row_end (sym c.code_at-code.ensures) ∙ sym c.if-is_row_end.ensures in
     let e = row_full_at c.args.width t c.args.start c.loop-i.i c.loop-i.spaced (omega arith) c.loop-i.invariant (omega arith) goes (omega arith) in
     grind (arith, nat_tests)
 
 pub returns-else-spaced-start : goal.returns-else-spaced-start
 returns-else-spaced-start g c =
     let t = textAt g.V.View c.args.below.now in
-    let goes : is_row_end (get_or t c.loop-i.i 0) ≡ false = ap is_row_end (sym c.code-at-code.ensures) ∙ sym c.if-is-row-end.ensures in
+    let goes : is_row_end (get_or t c.loop-i.i 0) ≡ false = ap is_row_end (sym c.code_at-code.ensures) ∙ sym c.if-is_row_end.ensures in
     let e = row_full_at c.args.width t c.args.start c.loop-i.i c.loop-i.spaced (omega arith) c.loop-i.invariant (omega arith) goes (omega arith) in
     grind (arith, nat_tests)
 
 pub loop-i-preserved : goal.loop-i-preserved
 loop-i-preserved g c =
     let t = textAt g.V.View c.args.below.now in
-    let goes : is_row_end (get_or t c.loop-i.i 0) ≡ false = ap is_row_end (sym c.code-at-code.ensures) ∙ sym c.if-is-row-end.ensures in
-    let same = c.code-at-code.ensures in
+    let goes : is_row_end (get_or t c.loop-i.i 0) ≡ false = ap is_row_end (sym c.code_at-code.ensures) ∙ sym c.if-is_row_end.ensures in
+    let same = c.code_at-code.ensures in
     let less = c.loop-i.invariant.fits in
     in_row_more_at c.args.width t c.args.start c.loop-i.i c.loop-i.spaced (omega arith) c.loop-i.invariant (omega arith) goes (omega arith) c.if-code-eq-SPACE.spaced
     (elim c.if-code-eq-SPACE.branch [ then-code-eq-SPACE w ↦ (let e = w.spaced-is in let y = w.if-code-eq-SPACE.true in grind (arith, nat_tests)) | else-code-eq-SPACE w ↦ (let e = w.spaced-is in let y = w.if-code-eq-SPACE.false in grind (arith, nat_tests)) ])

@@ -12,7 +12,7 @@ pub overflow-add-reach : goal.overflow-add-reach
 overflow-add-reach g c =
     let m = g.S.Scan.transducer c.args.scan.now in
     let t = textAt g.V.View c.args.below.now in
-    let fits = reached_le m t c.loop-i.i c.loop-i.reach c.loop-i.state c.code-at-code.result c.size-reach.result c.loop-i.invariant (omega (arith, c.requires.within)) c.code-at-code.ensures c.size-reach.ensures in
+    let fits = reached_le m t c.loop-i.i c.loop-i.reach c.loop-i.state c.code_at-code.result c.size-reach.result c.loop-i.invariant (omega (arith, c.requires.within)) c.code_at-code.ensures c.size-reach.ensures in
     let high = c.requires.walkable.high in
     omega arith
 
@@ -20,11 +20,11 @@ pub next-state-requires : goal.next-state-requires
 next-state-requires g c =
     let m = g.S.Scan.transducer c.args.scan.now in
     let t = textAt g.V.View c.args.below.now in
-    let fits = reached_le m t c.loop-i.i c.loop-i.reach c.loop-i.state c.code-at-code.result c.size-reach.result c.loop-i.invariant (omega (arith, c.requires.within)) c.code-at-code.ensures c.size-reach.ensures in
+    let fits = reached_le m t c.loop-i.i c.loop-i.reach c.loop-i.state c.code_at-code.result c.size-reach.result c.loop-i.invariant (omega (arith, c.requires.within)) c.code_at-code.ensures c.size-reach.ensures in
     record {
       sound = c.requires.walkable.sound;
       within = omega (arith, c.requires.within);
-      there = c.code-at-code.ensures;
+      there = c.code_at-code.ensures;
       small = omega (arith, c.loop-i.invariant.small, c.requires.walkable.high);
     }
 
@@ -32,7 +32,7 @@ pub loop-i-preserved : goal.loop-i-preserved
 loop-i-preserved g c =
     let m = g.S.Scan.transducer c.args.scan.now in
     let t = textAt g.V.View c.args.below.now in
-    walked_more m t c.loop-i.i c.loop-i.reach c.loop-i.state c.code-at-code.result c.size-reach.result c.loop-i.invariant (omega (arith, c.requires.within)) c.code-at-code.ensures c.size-reach.ensures
+    walked_more m t c.loop-i.i c.loop-i.reach c.loop-i.state c.code_at-code.result c.size-reach.result c.loop-i.invariant (omega (arith, c.requires.within)) c.code_at-code.ensures c.size-reach.ensures
     _ (g.met.S.Scan.bounded c.args.scan.now) c.next-state.ensures
 
 pub returns : goal.returns

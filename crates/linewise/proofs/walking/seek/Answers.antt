@@ -24,15 +24,15 @@ returns-then-u-reach g c =
     let inside : c.loop-i.i < length t = omega arith in
     let near : c.args.u < c.loop-i.reach + c.size-size.result = omega arith in
     record {
-      under = seek_under m t c.loop-i.i c.loop-i.reach c.loop-i.state c.code-at-code.result c.size-size.result c.loop-i.invariant.0 inside c.code-at-code.ensures c.size-size.ensures c.args.u (g.met.S.Scan.steady c.args.scan.now) low near;
-      code = seek_code m t c.loop-i.i c.loop-i.reach c.loop-i.state c.code-at-code.result c.size-size.result c.loop-i.invariant.0 inside c.code-at-code.ensures c.size-size.ensures c.args.u (g.met.S.Scan.steady c.args.scan.now) low near _ c.shown.ensures;
+      under = seek_under m t c.loop-i.i c.loop-i.reach c.loop-i.state c.code_at-code.result c.size-size.result c.loop-i.invariant.0 inside c.code_at-code.ensures c.size-size.ensures c.args.u (g.met.S.Scan.steady c.args.scan.now) low near;
+      code = seek_code m t c.loop-i.i c.loop-i.reach c.loop-i.state c.code_at-code.result c.size-size.result c.loop-i.invariant.0 inside c.code_at-code.ensures c.size-size.ensures c.args.u (g.met.S.Scan.steady c.args.scan.now) low near _ c.shown.ensures;
     }
 
 pub overflow-add-reach : goal.overflow-add-reach
 overflow-add-reach g c =
     let m = g.S.Scan.transducer c.args.scan.now in
     let t = textAt g.V.View c.args.below.now in
-    let fits = reached_le m t c.loop-i.i c.loop-i.reach c.loop-i.state c.code-at-code.result c.size-size.result c.loop-i.invariant.0 (omega arith) c.code-at-code.ensures c.size-size.ensures in
+    let fits = reached_le m t c.loop-i.i c.loop-i.reach c.loop-i.state c.code_at-code.result c.size-size.result c.loop-i.invariant.0 (omega arith) c.code_at-code.ensures c.size-size.ensures in
     let high = c.requires.walkable.high in
     omega arith
 
@@ -40,11 +40,11 @@ pub next-state-requires : goal.next-state-requires
 next-state-requires g c =
     let m = g.S.Scan.transducer c.args.scan.now in
     let t = textAt g.V.View c.args.below.now in
-    let fits = reached_le m t c.loop-i.i c.loop-i.reach c.loop-i.state c.code-at-code.result c.size-size.result c.loop-i.invariant.0 (omega arith) c.code-at-code.ensures c.size-size.ensures in
+    let fits = reached_le m t c.loop-i.i c.loop-i.reach c.loop-i.state c.code_at-code.result c.size-size.result c.loop-i.invariant.0 (omega arith) c.code_at-code.ensures c.size-size.ensures in
     record {
       sound = c.requires.walkable.sound;
       within = omega arith;
-      there = c.code-at-code.ensures;
+      there = c.code_at-code.ensures;
       small = omega (arith, c.loop-i.invariant.0.small, c.requires.walkable.high);
     }
 
@@ -53,7 +53,7 @@ loop-i-preserved g c =
     let m = g.S.Scan.transducer c.args.scan.now in
     let t = textAt g.V.View c.args.below.now in
     let low = c.loop-i.invariant.1 in (
-      walked_more m t c.loop-i.i c.loop-i.reach c.loop-i.state c.code-at-code.result c.size-size.result c.loop-i.invariant.0 (omega arith) c.code-at-code.ensures c.size-size.ensures
+      walked_more m t c.loop-i.i c.loop-i.reach c.loop-i.state c.code_at-code.result c.size-size.result c.loop-i.invariant.0 (omega arith) c.code_at-code.ensures c.size-size.ensures
           _ (g.met.S.Scan.bounded c.args.scan.now) c.next-state.ensures,
       omega arith,
     )

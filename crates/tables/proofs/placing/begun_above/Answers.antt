@@ -3,18 +3,18 @@ use Rattle.std.proofs.lemmas.List.{length-map}
 use Rattle.tables.proofs.Overs.{begun_on, begun_here}
 use Rattle.tables.proofs.placing.begun_above.Goals as goal
 
-pub returns-then-not-begins-by : goal.returns-then-not-begins-by
-returns-then-not-begins-by g c = record {
+pub returns-then-not-begins_by : goal.returns-then-not-begins_by
+returns-then-not-begins_by g c = record {
   few = omega arith;
   begun = record {
     before = c.loop-i.invariant;
-    behind = λ e l. begun_here g.R.Record.mark c.args.records.now c.args.u c.loop-i.i c.place.result c.index-records-i.result c.loop-i-test.true c.index-records-i.is c.place.ensures (sym c.if-not-begins-by.ensures) e;
+    behind = λ e l. begun_here g.R.Record.mark c.args.records.now c.args.u c.loop-i.i c.place.result c.index-records-i.result c.loop-i-test.true c.index-records-i.is c.place.ensures (sym c.if-not-begins_by.ensures) e;
   };
 }
 
 pub loop-i-preserved : goal.loop-i-preserved
 loop-i-preserved g c =
-    begun_on g.R.Record.mark c.args.records.now c.args.u c.loop-i.i c.place.result c.index-records-i.result c.loop-i-test.true c.index-records-i.is c.place.ensures (sym c.if-not-begins-by.ensures)
+    begun_on g.R.Record.mark c.args.records.now c.args.u c.loop-i.i c.place.result c.index-records-i.result c.loop-i-test.true c.index-records-i.is c.place.ensures (sym c.if-not-begins_by.ensures)
 
 pub returns : goal.returns
 returns g c = record {

@@ -10,8 +10,8 @@ returns g c = λ xs e h.
     let rs = c.records-records.result.now in
     let qs = records_of c.args.table.now in
     let same = c.records-records.ensures.value in
-    length-by (marks_of mark c.args.table.now) xs h c.args.below (length rs) c.shown-before-shown.result c.taken-before-taken.result c.balance.result e
+    length-by (marks_of mark c.args.table.now) xs h c.args.below (length rs) c.shown_before-shown.result c.taken_before-taken.result c.balance.result e
     (omega (arith, length-map qs mark, ap length same))
-    (shown_first mark rs qs same (length rs) c.shown-before-shown.result c.shown-before-shown.ensures)
-    (taken_first mark rs qs same (length rs) c.taken-before-taken.result c.taken-before-taken.ensures)
+    (shown_first mark rs qs same (length rs) c.shown_before-shown.result c.shown_before-shown.ensures)
+    (taken_first mark rs qs same (length rs) c.taken_before-taken.result c.taken_before-taken.ensures)
     c.balance.ensures

@@ -5,16 +5,16 @@ use Rattle.view.specs.Seen.{textAt}
 use Rattle.lines.proofs.Stepping.{start_here, start_same}
 use Rattle.view.proofs.reading.line_start.Goals as goal
 
-pub returns-then-is-row-end : goal.returns-then-is-row-end
-returns-then-is-row-end g c =
+pub returns-then-is_row_end : goal.returns-then-is_row_end
+returns-then-is_row_end g c =
     let t = textAt g.V.View c.args.below.now in
-    let ends : is_row_end (get_or t (c.loop-i.i - 1) 0) ≡ true = ap is_row_end (sym c.code-at.ensures) ∙ sym c.if-is-row-end.ensures in
+    let ends : is_row_end (get_or t (c.loop-i.i - 1) 0) ≡ true = ap is_row_end (sym c.code_at.ensures) ∙ sym c.if-is_row_end.ensures in
     start_here t c.loop-i.i (omega arith) c.loop-i.invariant.0 ends ∙ c.loop-i.invariant.1
 
 pub loop-i-preserved : goal.loop-i-preserved
 loop-i-preserved g c =
     let t = textAt g.V.View c.args.below.now in
-    let goes : is_row_end (get_or t (c.loop-i.i - 1) 0) ≡ false = ap is_row_end (sym c.code-at.ensures) ∙ sym c.if-is-row-end.ensures in
+    let goes : is_row_end (get_or t (c.loop-i.i - 1) 0) ≡ false = ap is_row_end (sym c.code_at.ensures) ∙ sym c.if-is_row_end.ensures in
     let inside = c.loop-i.invariant.0 in
     (omega arith, start_same t c.loop-i.i (omega arith) inside goes ∙ c.loop-i.invariant.1)
 

@@ -8,12 +8,12 @@ use Rattle.view.specs.Rows.{is_in_row}
 use Rattle.view.specs.Seen.{textAt}
 use Rattle.view.proofs.rows.row_from.Goals as goal
 
-pub returns-then-is-row-end : goal.returns-then-is-row-end
-returns-then-is-row-end g c =
+pub returns-then-is_row_end : goal.returns-then-is_row_end
+returns-then-is_row_end g c =
     let t = textAt g.V.View c.args.view.now in
     let i = c.loop-i.i in
     let at = c.in-Ok.ensures in
-    let ends : is_in_row (get_or t i 0) ≡ false = ap not (ap is_row_end (sym at.1) ∙ sym c.is-row-end.ensures ∙ c.if-is-row-end.true) in
+    let ends : is_in_row (get_or t i 0) ≡ false = ap not (ap is_row_end (sym at.1) ∙ sym c.is_row_end.ensures ∙ c.if-is_row_end.true) in
     let e = prefix_len-drop_no is_in_row t i 0 at.0 ends in
     let n : i - c.args.u ≡ prefix_len is_in_row (drop c.args.u t) = omega (arith, c.loop-i.invariant.1) in
     (omega arith, c.loop-i.invariant.0 ∙ ap (λ (k : ℕ). take k (drop c.args.u t)) n)
@@ -23,9 +23,9 @@ loop-i-preserved g c =
     let t = textAt g.V.View c.args.view.now in
     let i = c.loop-i.i in
     let at = c.in-Ok.ensures in
-    let goes : is_in_row (get_or t i 0) ≡ true = ap not (ap is_row_end (sym at.1) ∙ sym c.is-row-end.ensures ∙ c.if-is-row-end.false) in
+    let goes : is_in_row (get_or t i 0) ≡ true = ap not (ap is_row_end (sym at.1) ∙ sym c.is_row_end.ensures ∙ c.if-is_row_end.false) in
     let e = prefix_len-drop_yes is_in_row t i 0 at.0 goes in (
-      stretch_more t _ _ c.args.u i c.in-Ok.code (omega arith) at.0 at.1 c.loop-i.invariant.0 (c.push.ensures.items ∙ cond-true _ _ _ c.if-is-err.ensures.negation),
+      stretch_more t _ _ c.args.u i c.in-Ok.code (omega arith) at.0 at.1 c.loop-i.invariant.0 (c.push.ensures.items ∙ cond-true _ _ _ c.if-is_err.ensures.negation),
       omega (arith, c.loop-i.invariant.1),
     )
 

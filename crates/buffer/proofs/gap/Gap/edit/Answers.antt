@@ -12,7 +12,7 @@ returns-in-Some c =
     record {
       len = refl;
       does = (
-        same_refusal c.args.a c.args.r c.args.w.now c.edit-fault.ensures (ap (option_map refusal_of) c.in-Some.is) (counted _ _ _ _ _ e.0 e.1) e.2,
+        same_refusal c.args.a c.args.r c.args.w.now c.edit_fault.ensures (ap (option_map refusal_of) c.in-Some.is) (counted _ _ _ _ _ e.0 e.1) e.2,
         refl,
       );
     }
@@ -28,9 +28,9 @@ returns c =
     let a = c.args.a in
     let r = c.args.r in
     let w = c.args.w.now in
-    let x = c.open-gap.new.cells in
+    let x = c.open_gap.new.cells in
     let y = c.put.new.cells in
-    let o = sym c.edit-fault.ensures ∙ ap (option_map refusal_of) c.in-default.is in
+    let o = sym c.edit_fault.ensures ∙ ap (option_map refusal_of) c.in-default.is in
     let t = edit_inside (f + b) z a r w o in
     let j = edit_fits (f + b) z a r w o in
     let n = counted m d c.args.self f b e.0 e.1 in
@@ -38,7 +38,7 @@ returns c =
     let h = held_by m d c.args.self f b e.0 e.1 in
     let D = held m d c.args.self in
     let p = c.put.ensures in
-    let g = c.open-gap.ensures in
+    let g = c.open_gap.ensures in
     let u : usable m y ≡ usable m d = ap (λ (k : ℕ). min k m) (p.len ∙ g.len) in
     let k : length x - (length D - (a + r)) ≡ length d - (f + b - (a + r)) = omega (arith, g.len) in
     let inside : a + r ≤ length D = omega arith in
@@ -50,7 +50,7 @@ returns c =
     record {
       len = p.len ∙ g.len;
       does = (
-        same_refusal a r w c.edit-fault.ensures (ap (option_map refusal_of) c.in-default.is) n e.2,
+        same_refusal a r w c.edit_fault.ensures (ap (option_map refusal_of) c.in-default.is) n e.2,
         held_is m y (a + length w) (f + b - (a + r)) fits
             ∙ ap (λ (i : ℕ). ends y (a + length w) (i - (a + r))) n
             ∙ holds_edited x y D w a r z inside spare j p.len front back p.before p.behind,

@@ -93,7 +93,7 @@ returns-in-Err g c =
     let does = subst P f.1.0 c.order.ensures.does in
     let T : ℕ → Type 0 = λ n. order_refusal_of e.most (r ∷ e.stack v) (e.doc v) n o w ≡ Some (view_refusal (meant_for n (deeper f.0))) in
     let told = subst T up (deeper_order e.most r (e.stack v) (e.doc v) k o w f.0 does.0) in
-    let same = c.from-above.ensures ∙ ap (meant_for c.args.k) f.1.1 in
+    let same = c.from_above.ensures ∙ ap (meant_for c.args.k) f.1.1 in
     let Q : g.row.V.Denot → Type 0 = λ z. Sound e z r l.len l.ceiling l.awake in
     record {
       sound = subst Q (sym does.1) c.requires;
@@ -105,14 +105,14 @@ at_zero : (most : ℕ) (r : Records) (rs : List Records) (d : List ℕ) (k : ℕ
     → order_refusal_of most (r ∷ rs) d k o w ≡ order_refusal_of most (r ∷ rs) d zero o w
 at_zero most r rs d k o w h = let z : k ≡ 0 = omega arith in ap (λ (n : ℕ). order_refusal_of most (r ∷ rs) d n o w) z
 
-pub returns-then-not-has-verb : goal.returns-then-not-has-verb
-returns-then-not-has-verb g c =
+pub returns-then-not-has_verb : goal.returns-then-not-has_verb
+returns-then-not-has_verb g c =
     let v = c.args.self.now.below in
     let e = g.V.View in
     let r = g.K.Kind.records c.args.self.now.kind in
     let o = c.args.order in
     let w = c.args.w.now in
-    let has = g.met.K.Kind.speaks c.args.self.now.kind o.verb ∙ sym c.has-verb.ensures ∙ c.if-not-has-verb.true in
+    let has = g.met.K.Kind.speaks c.args.self.now.kind o.verb ∙ sym c.has_verb.ensures ∙ c.if-not-has_verb.true in
     record {
       sound = c.requires;
       does = (at_zero e.most r (e.stack v) (e.doc v) c.args.k o w c.if-k-gt0.false ∙ refused_verb e.most r (e.stack v) (e.doc v) o w has ∙ ap (λ (z : ViewFault). Some (view_refusal z)) (sym c.here.ensures), refl);
@@ -125,7 +125,7 @@ returns-then-not-self g c =
     let r = g.K.Kind.records c.args.self.now.kind in
     let o = c.args.order in
     let w = c.args.w.now in
-    let has = g.met.K.Kind.speaks c.args.self.now.kind o.verb ∙ sym c.has-verb.ensures ∙ c.if-not-has-verb.false in
+    let has = g.met.K.Kind.speaks c.args.self.now.kind o.verb ∙ sym c.has_verb.ensures ∙ c.if-not-has_verb.false in
     record {
       sound = c.requires;
       does = (at_zero e.most r (e.stack v) (e.doc v) c.args.k o w c.if-k-gt0.false ∙ refused_asleep e.most r (e.stack v) (e.doc v) o w has (sym c.requires.knows ∙ c.if-not-self.true) ∙ ap (λ (z : ViewFault). Some (view_refusal z)) (sym c.here-then-not-self.ensures), refl);
@@ -137,7 +137,7 @@ order-requires-2 g c =
     let e = g.V.View in
     let s = c.requires in
     let law : Lawful e v = record { sound = s.below; fits = g.met.V.View.fits v s.below; small = g.met.V.View.small v s.below } in
-    record { over = sound_over e v law (g.K.Kind.records c.args.self.now.kind) _ _ _ s c.if-not-self.false; own = sym c.has-verb.ensures ∙ c.if-not-has-verb.false }
+    record { over = sound_over e v law (g.K.Kind.records c.args.self.now.kind) _ _ _ s c.if-not-self.false; own = sym c.has_verb.ensures ∙ c.if-not-has_verb.false }
 
 pub len-self-requires : goal.len-self-requires
 len-self-requires g c =
@@ -158,7 +158,7 @@ returns-in-Ok-order g c =
     let w = c.args.w.now in
     let law : Lawful e v = record { sound = s.below; fits = g.met.V.View.fits v s.below; small = g.met.V.View.small v s.below } in
     let does = c.in-Ok-order.ensures in
-    let has = g.met.K.Kind.speaks c.args.self.now.kind o.verb ∙ sym c.has-verb.ensures ∙ c.if-not-has-verb.false in
+    let has = g.met.K.Kind.speaks c.args.self.now.kind o.verb ∙ sym c.has_verb.ensures ∙ c.if-not-has_verb.false in
     let up = sym s.knows ∙ c.if-not-self.false in
     let zero-k : 0 ≡ c.args.k = omega arith in
     let q = g.K.Kind.records c.order-2.new.self in
@@ -186,7 +186,7 @@ returns-in-Err-order g c =
     let o = c.args.order in
     let w = c.args.w.now in
     let does = c.in-Err-order.ensures in
-    let has = g.met.K.Kind.speaks l.kind o.verb ∙ sym c.has-verb.ensures ∙ c.if-not-has-verb.false in
+    let has = g.met.K.Kind.speaks l.kind o.verb ∙ sym c.has_verb.ensures ∙ c.if-not-has_verb.false in
     let up = sym s.knows ∙ c.if-not-self.false in
     let Q : g.row.K.Denot → Type 0 = λ z. Sound e v (g.K.Kind.records z) l.len l.ceiling l.awake in
     record {

@@ -35,9 +35,9 @@ returns g c = record {
       let fits = kept.old_fits in
       let low-is = c.reach-low.ensures.low in
       let high_is = c.reach-low.ensures.high in
-      folds_raised ms xs (textAt g.V.View c.args.below.now) c.args.change c.reach-low.result.0 c.reach-low.result.1 c.first-over-start.result c.first-over-end.result c.saturating-sub.result
+      folds_raised ms xs (textAt g.V.View c.args.below.now) c.args.change c.reach-low.result.0 c.reach-low.result.1 c.first_over-start.result c.first_over-end.result c.saturating_sub.result
       low-is high_is
-      (c.first-over-start.ensures xs (omega arith) ok)
-      (c.first-over-end.ensures xs (omega arith) ok)
-      c.saturating-sub.ensures;
+      (c.first_over-start.ensures xs (omega arith) ok)
+      (c.first_over-end.ensures xs (omega arith) ok)
+      c.saturating_sub.ensures;
 }

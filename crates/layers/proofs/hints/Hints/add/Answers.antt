@@ -13,10 +13,10 @@ use Rattle.layers.proofs.hints.Hints.add.Goals as goal
 pub returns : goal.returns
 returns c =
     let ms : List Mark = marks_of hint_mark c.args.self.now.table in
-    let good : length c.args.w.now ≤ prefix_len is_hint_code c.args.w.now = omega (arith, c.if-good-w.false, c.hint-front-good.ensures) in
+    let good : length c.args.w.now ≤ prefix_len is_hint_code c.args.w.now = omega (arith, c.if-good-w.false, c.hint_front-good.ensures) in
     let made = c.in-Some.ensures in
-    let room = c.if-not-put-in.ensures in (
+    let room = c.if-not-put_in.ensures in (
       no_cause (hint_causes ms c.args.w.now) (ap not made.0, (le-ltb (prefix_len is_hint_code c.args.w.now) (length c.args.w.now) good, (room.0, tt))),
       room.1 ∙ ap (λ (m : Mark). put m ms) made.1,
-      λ xs h ok. same_change _ _ _ _ _ _ (c.last-over-start.ensures xs h ok) refl refl,
+      λ xs h ok. same_change _ _ _ _ _ _ (c.last_over-start.ensures xs h ok) refl refl,
     )

@@ -17,12 +17,12 @@ returns g c = record {
   raises = λ xs fit kept long.
       let ms : List Mark = marks_of hint_mark c.args.self.now.table in
       let ok = behind_counted g.V.View c.args.below.now hint ms c.args.change c.requires xs fit kept in
-      hints_raised ms xs (textAt g.V.View c.args.below.now) c.args.change c.last-over-start.result c.if-change-eq0.old
-      (c.last-over-start.ensures xs (omega (arith, kept.old_fits)) ok)
+      hints_raised ms xs (textAt g.V.View c.args.below.now) c.args.change c.last_over-start.result c.if-change-eq0.old
+      (c.last_over-start.ensures xs (omega (arith, kept.old_fits)) ok)
       (λ none. elim c.if-change-eq0.branch [ then-change-eq0 w ↦ w.old-is | else-change-eq0 w ↦ absurd (w.if-change-eq0.false none) ])
       (λ some.
       elim c.if-change-eq0.branch [
         | then-change-eq0 w ↦ absurd (some w.if-change-eq0.true)
-        | else-change-eq0 w ↦ w.old-is ∙ w.saturating-sub-old.ensures ∙ ap (λ (z : ℕ). z - c.last-over-start.result) (w.first-over.ensures xs kept.old_fits ok)
+        | else-change-eq0 w ↦ w.old-is ∙ w.saturating-sub-old.ensures ∙ ap (λ (z : ℕ). z - c.last_over-start.result) (w.first-over.ensures xs kept.old_fits ok)
       ]);
 }

@@ -19,17 +19,17 @@ use Rattle.layers.proofs.hints.HintsKind.order.Goals as goal
 pub returns-then-order-eq114 : goal.returns-then-order-eq114
 returns-then-order-eq114 g c =
     let ms : List Mark = marks_of hint_mark c.args.self.now.table in
-    let ms' : List Mark = marks_of hint_mark c.take-out.new.table in
+    let ms' : List Mark = marks_of hint_mark c.take_out.new.table in
     let k : Hints = c.args.self.now in
-    let k' : Hints = record { table = c.take-out.new.table } in
+    let k' : Hints = record { table = c.take_out.new.table } in
     let F : Table Hint → Hints = λ t. record { table = t } in
-    let P : ℕ → Type 0 = λ l. Removes (meets hint l) ms ms' k k' c.args.order.x c.take-out.result in
+    let P : ℕ → Type 0 = λ l. Removes (meets hint l) ms ms' k k' c.args.order.x c.take_out.result in
     removes hint ms ms' k k' (textAt g.V.View c.args.below.now) (length (g.V.View.doc c.args.below.now)) (first_at g.V.View c.args.below.now c.args.order.x) (first_at g.V.View c.args.below.now c.args.order.y) c.args.order c.args.w.now
     (ap (λ (v : ℕ). eqb v 105) c.if-order-eq114.true)
     c.in-Ok.ensures.0
     (over_counted g.V.View c.args.below.now hint ms c.requires.over)
-    c.take-out.result
-    (subst P c.in-Ok.ensures.1 (removes_in F (meets hint c.in-Ok.l) ms ms' c.args.self.now.table c.take-out.new.table c.args.order.x c.take-out.result c.take-out.ensures))
+    c.take_out.result
+    (subst P c.in-Ok.ensures.1 (removes_in F (meets hint c.in-Ok.l) ms ms' c.args.self.now.table c.take_out.new.table c.args.order.x c.take_out.result c.take_out.ensures))
 
 pub returns : goal.returns
 returns g c =

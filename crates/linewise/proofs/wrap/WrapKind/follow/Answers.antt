@@ -14,7 +14,7 @@ raise-requires g c =
     record {
       walkable = wrap_behind g.V.View c.args.below.now c.args.self.now.width c.args.change c.requires;
       within = fits;
-      before = omega (arith, c.line-start-from.ensures, line_start_le (textAt g.V.View c.args.below.now) c.args.change.start);
+      before = omega (arith, c.line_start-from.ensures, line_start_le (textAt g.V.View c.args.below.now) c.args.change.start);
     }
 
 pub returns : goal.returns
@@ -22,7 +22,7 @@ returns g c =
     let w = c.args.self.now.width in
     let t = textAt g.V.View c.args.below.now in
     let by : ByNew (soft_wrap (row_length w)) t c.args.change c.args.len (reach_by (soft_wrap (row_length w)) t (line_start t c.args.change.start)) c.raise.result = record {
-      start = c.raise.ensures.start ∙ ap (reach_by (soft_wrap (row_length w)) t) c.line-start-from.ensures;
+      start = c.raise.ensures.start ∙ ap (reach_by (soft_wrap (row_length w)) t) c.line_start-from.ensures;
       old = c.raise.ensures.old;
       new = c.raise.ensures.new;
     } in

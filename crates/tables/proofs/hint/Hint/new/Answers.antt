@@ -5,5 +5,5 @@ use Rattle.tables.proofs.hint.Hint.new.Goals as goal
 
 pub returns : goal.returns
 returns c =
-    let some = c.if-is-empty.ensures in
-    (grind (arith, nat_tests), hint_shows c.args.at c.args.w.now c.copy-from-slice.new.self _ c.copy-from-slice.ensures.after)
+    let some = c.if-is_empty.ensures in
+    (grind (arith, nat_tests), hint_shows c.args.at c.args.w.now c.copy_from_slice.new.self _ c.copy_from_slice.ensures.after)
