@@ -3,8 +3,8 @@ use Rattle.view.specs.Seen.{textAt}
 use Rattle.damage.proofs.Counting.{rows_counted, ends_all, ends_few}
 use Rattle.damage.proofs.rows.count_rows.Goals as goal
 
-pub overflow-add-result : goal.overflow-add-result
-overflow-add-result g c =
+pub overflow_add-result : goal.overflow_add-result
+overflow_add-result g c =
     let e = g.V.View in
     let v = c.args.view.now in
     let few = ends_few e.most (e.stack v) (e.doc v) (g.met.V.View.means v c.requires) in

@@ -4,15 +4,15 @@ use Rattle.damage.proofs.Counting.{codes_few, ends_few}
 use Rattle.damage.proofs.Damaging.{damage_counted}
 use Rattle.damage.proofs.rows.damage_of.Goals as goal
 
-pub overflow-add-first : goal.overflow-add-first
-overflow-add-first g c =
+pub overflow_add-first : goal.overflow_add-first
+overflow_add-first g c =
     let e = g.V.View in
     let v = c.args.view.now in
     let few = ends_few e.most (e.stack v) (e.doc v) (g.met.V.View.means v c.requires) in
     omega (arith, few c.args.change.start, few c.len.result, c.ends_before-first.ensures, c.ends_between-behind.ensures)
 
-pub overflow-add-result : goal.overflow-add-result
-overflow-add-result g c =
+pub overflow_add-result : goal.overflow_add-result
+overflow_add-result g c =
     let e = g.V.View in
     let v = c.args.view.now in
     let few = ends_few e.most (e.stack v) (e.doc v) (g.met.V.View.means v c.requires) in

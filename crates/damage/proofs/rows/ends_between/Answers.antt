@@ -5,8 +5,8 @@ use Rattle.damage.proofs.Counting.{ends_here, ends_same, ends_counted, ends_few}
 use Rattle.damage.proofs.rows.ends_between.Goals as goal
 use Rattle.damage.proofs.rows.ends_between.Goals.{then-is-row-end, else-is-row-end}
 
-pub overflow-add-ends : goal.overflow-add-ends
-overflow-add-ends g c =
+pub overflow_add-ends : goal.overflow_add-ends
+overflow_add-ends g c =
     let e = g.V.View in
     let v = c.args.view.now in
     let few = ends_few e.most (e.stack v) (e.doc v) (g.met.V.View.means v c.requires) in

@@ -3,14 +3,14 @@ use Rattle.document.proofs.Lining.{number_le, number_next, number_same, start_ne
 use Rattle.document.proofs.lines.line_at.Goals as goal
 use Rattle.document.proofs.lines.line_at.Goals.{then-branch-eq-NEWLINE, else-branch-eq-NEWLINE}
 
-pub overflow-add-number : goal.overflow-add-number
-overflow-add-number g c =
+pub overflow_add-number : goal.overflow_add-number
+overflow_add-number g c =
     let h = number_le (g.B.Buffer.doc c.args.buffer.now) c.loop-i.i in
     omega (arith, g.B.Buffer.fits c.args.buffer.now, g.B.Buffer.bounded)
 
 pub loop-i-preserved : goal.loop-i-preserved
 loop-i-preserved g c =
-    let e = c.in-ok-code.ensures in
+    let e = c.in_ok-code.ensures in
     let d = g.B.Buffer.doc c.args.buffer.now in
     elim c.if-branch-eq-NEWLINE.branch [
       | then-branch-eq-NEWLINE w ↦ (

@@ -11,8 +11,8 @@ bounds-records-index g c =
     held_index g.R.Record.mark c.records.result.now (records_of c.args.table.now) c.records.ensures.value c.in-Shown.index
     (c.in-Shown.ensures (textAt g.V.View c.args.below.now) c.requires.within c.requires.counted).0
 
-pub offset-bounds-records-index : goal.offset-bounds-records-index
-offset-bounds-records-index g c = let h : c.in-Shown.index < length c.records.result.now = bounds-records-index g c in omega arith
+pub offset_bounds-records-index : goal.offset_bounds-records-index
+offset_bounds-records-index g c = let h : c.in-Shown.index < length c.records.result.now = bounds-records-index g c in omega arith
 
 pub code-requires : goal.code-requires
 code-requires g c =

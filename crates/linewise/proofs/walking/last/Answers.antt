@@ -5,8 +5,8 @@ use Rattle.view.specs.Seen.{textAt}
 use Rattle.linewise.proofs.Walks.{reach_some}
 use Rattle.linewise.proofs.walking.last.Goals as goal
 
-pub overflow-sub-result : goal.overflow-sub-result
-overflow-sub-result g c =
+pub overflow_sub-result : goal.overflow_sub-result
+overflow_sub-result g c =
     let m = g.S.Scan.transducer c.args.scan.now in
     let t = textAt g.V.View c.args.below.now in
     omega (arith, c.reach.ensures, reach_some m (g.met.S.Scan.steady c.args.scan.now) t c.args.l (omega arith))

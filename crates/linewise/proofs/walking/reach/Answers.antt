@@ -8,8 +8,8 @@ pub loop-i-init : goal.loop-i-init
 loop-i-init g c =
     walked_none (g.S.Scan.transducer c.args.scan.now) (textAt g.V.View c.args.below.now) _ (g.met.S.Scan.bounded c.args.scan.now) c.start-state.ensures
 
-pub overflow-add-reach : goal.overflow-add-reach
-overflow-add-reach g c =
+pub overflow_add-reach : goal.overflow_add-reach
+overflow_add-reach g c =
     let m = g.S.Scan.transducer c.args.scan.now in
     let t = textAt g.V.View c.args.below.now in
     let fits = reached_le m t c.loop-i.i c.loop-i.reach c.loop-i.state c.code_at-code.result c.size-reach.result c.loop-i.invariant (omega (arith, c.requires.within)) c.code_at-code.ensures c.size-reach.ensures in

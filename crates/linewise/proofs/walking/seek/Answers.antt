@@ -10,11 +10,11 @@ loop-i-init g c = (
   omega arith,
 )
 
-pub overflow-sub-u : goal.overflow-sub-u
-overflow-sub-u g c = c.loop-i.invariant.1
+pub overflow_sub-u : goal.overflow_sub-u
+overflow_sub-u g c = c.loop-i.invariant.1
 
-pub overflow-sub-u-then-u-reach : goal.overflow-sub-u-then-u-reach
-overflow-sub-u-then-u-reach g c = c.loop-i.invariant.1
+pub overflow_sub-u-then-u-reach : goal.overflow_sub-u-then-u-reach
+overflow_sub-u-then-u-reach g c = c.loop-i.invariant.1
 
 pub returns-then-u-reach : goal.returns-then-u-reach
 returns-then-u-reach g c =
@@ -28,8 +28,8 @@ returns-then-u-reach g c =
       code = seek_code m t c.loop-i.i c.loop-i.reach c.loop-i.state c.code_at-code.result c.size-size.result c.loop-i.invariant.0 inside c.code_at-code.ensures c.size-size.ensures c.args.u (g.met.S.Scan.steady c.args.scan.now) low near _ c.shown.ensures;
     }
 
-pub overflow-add-reach : goal.overflow-add-reach
-overflow-add-reach g c =
+pub overflow_add-reach : goal.overflow_add-reach
+overflow_add-reach g c =
     let m = g.S.Scan.transducer c.args.scan.now in
     let t = textAt g.V.View c.args.below.now in
     let fits = reached_le m t c.loop-i.i c.loop-i.reach c.loop-i.state c.code_at-code.result c.size-size.result c.loop-i.invariant.0 (omega arith) c.code_at-code.ensures c.size-size.ensures in

@@ -27,8 +27,8 @@ returns g c = λ xs e h.
     (elim c.if-n-gt0.branch [
       | goal.then-n-gt0+else-offset-shown w ↦
           ends_over mark c.records-records.result.now c.args.u c.begun_above-n.result (omega arith) c.begun_above-n.ensures.few c.begun_above-n.ensures.begun xs inside counted
-          (c.begun_above-n.result - 1) w.index-records-index.result w.place.result w.shown-before-shown.result w.taken-before-taken.result w.balance.result
-          (omega arith) w.index-records-index.is w.place.ensures w.shown-before-shown.ensures w.taken-before-taken.ensures w.balance.ensures
+          (c.begun_above-n.result - 1) w.index-records-index.result w.place.result w.shown_before-shown.result w.taken_before-taken.result w.balance.result
+          (omega arith) w.index-records-index.is w.place.ensures w.shown_before-shown.ensures w.taken_before-taken.ensures w.balance.ensures
           (omega arith)
       | goal.else-n-gt0 w ↦ ends_none (map mark c.records-records.result.now) c.args.u c.begun_above-n.result (omega arith)
     ]))

@@ -30,7 +30,7 @@ returns c =
     let w = c.args.w.now in
     let x = c.open_gap.new.cells in
     let y = c.put.new.cells in
-    let o = sym c.edit_fault.ensures ∙ ap (option_map refusal_of) c.in-default.is in
+    let o = sym c.edit_fault.ensures ∙ ap (option_map refusal_of) c.in_default.is in
     let t = edit_inside (f + b) z a r w o in
     let j = edit_fits (f + b) z a r w o in
     let n = counted m d c.args.self f b e.0 e.1 in
@@ -50,7 +50,7 @@ returns c =
     record {
       len = p.len ∙ g.len;
       does = (
-        same_refusal a r w c.edit_fault.ensures (ap (option_map refusal_of) c.in-default.is) n e.2,
+        same_refusal a r w c.edit_fault.ensures (ap (option_map refusal_of) c.in_default.is) n e.2,
         held_is m y (a + length w) (f + b - (a + r)) fits
             ∙ ap (λ (i : ℕ). ends y (a + length w) (i - (a + r))) n
             ∙ holds_edited x y D w a r z inside spare j p.len front back p.before p.behind,

@@ -15,15 +15,15 @@ use Rattle.layer.proofs.Rising.{risen_ok, risen_err, deeper_refusal, mapped_none
 use Rattle.layer.specs.Carrying.{Lawful, behind_when, over_when, carried_whole}
 use Rattle.layer.proofs.layer.LayerView.edit.Goals as goal
 
-pub returns-in-err-change : goal.returns-in-err-change
-returns-in-err-change g c =
+pub returns-in_err-change : goal.returns-in_err-change
+returns-in_err-change g c =
     let l = c.args.self.now in
     let v = l.below in
     let v' = c.edit.new.self in
     let e = g.V.View in
     let s = c.requires in
     let p = err_from_is_err_and c.from-residual.result c.from-residual.ensures.1 in
-    let f = risen_err c.edit.result c.rise.result c.in-err-change.field-0.0 c.rise.ensures c.in-err-change.was in
+    let f = risen_err c.edit.result c.rise.result c.in_err-change.field-0.0 c.rise.ensures c.in_err-change.was in
     let P : Result Change ViewFault → Type 0 = λ x. Edits e.most e.doc e.spare_of e.stack v v' e.spare_after c.args.a c.args.r c.args.w.now x in
     let does = subst P f.1.0 c.edit.ensures.does in
     let told = deeper_refusal (suc (length (e.stack v))) (edit_refusal (length (e.doc v)) (e.spare_of v) c.args.a c.args.r c.args.w.now) f.0 does.0 in
@@ -41,11 +41,11 @@ carry-requires g c =
     let e = g.V.View in
     let s = c.requires in
     let s' = c.edit.ensures.sound in
-    let own = c.in-ok-change.change in
+    let own = c.in_ok-change.change in
     let law : Lawful e v = record { sound = s.below; fits = g.met.V.View.fits v s.below; small = g.met.V.View.small v s.below } in
     let law' : Lawful e v' = record { sound = s'; fits = g.met.V.View.fits v' s'; small = g.met.V.View.small v' s' } in
     let P : Result Change ViewFault → Type 0 = λ x. Edits e.most e.doc e.spare_of e.stack v v' e.spare_after c.args.a c.args.r c.args.w.now x in
-    let does = subst P (risen_ok c.edit.result c.rise.result own c.rise.ensures c.in-ok-change.was) c.edit.ensures.does in
+    let does = subst P (risen_ok c.edit.result c.rise.result own c.rise.ensures c.in_ok-change.was) c.edit.ensures.does in
     let kept : Kept (textAt e v) (textAt e v') own = does.3.2 in
     let low : ceiling_of e.most (e.stack v') ≡ ceiling_of e.most (e.stack v) = ap (ceiling_of e.most) does.3.0 ∙ edit_ceiling e.most (e.stack v) (e.doc v) (e.doc v') (record { start = c.args.a; old = c.args.r; new = length c.args.w.now }) in
     record {
@@ -62,12 +62,12 @@ returns g c =
     let r = g.K.Kind.records c.args.self.now.kind in
     let s = c.requires in
     let s' = c.edit.ensures.sound in
-    let own = c.in-ok-change.change in
+    let own = c.in_ok-change.change in
     let by : Change = record { start = c.args.a; old = c.args.r; new = length c.args.w.now } in
     let law : Lawful e v = record { sound = s.below; fits = g.met.V.View.fits v s.below; small = g.met.V.View.small v s.below } in
     let law' : Lawful e v' = record { sound = s'; fits = g.met.V.View.fits v' s'; small = g.met.V.View.small v' s' } in
     let P : Result Change ViewFault → Type 0 = λ x. Edits e.most e.doc e.spare_of e.stack v v' e.spare_after c.args.a c.args.r c.args.w.now x in
-    let does = subst P (risen_ok c.edit.result c.rise.result own c.rise.ensures c.in-ok-change.was) c.edit.ensures.does in
+    let does = subst P (risen_ok c.edit.result c.rise.result own c.rise.ensures c.in_ok-change.was) c.edit.ensures.does in
     let kept : Kept (textAt e v) (textAt e v') own = does.3.2 in
     let low : ceiling_of e.most (e.stack v') ≡ ceiling_of e.most (e.stack v) = ap (ceiling_of e.most) does.3.0 ∙ edit_ceiling e.most (e.stack v) (e.doc v) (e.doc v') by in
     let l' = c.carry.new.self in

@@ -12,7 +12,7 @@ last-requires-2 g c =
     let e = g.V.View in
     let s = c.requires in
     let law : Lawful e v = record { sound = s.below; fits = g.met.V.View.fits v s.below; small = g.met.V.View.small v s.below } in
-    let answer = c.in-ok-l.ensures in
+    let answer = c.in_ok-l.ensures in
     let inside = (stack_finds e.most (e.stack v) (e.doc v) law.fits).last_in c.args.p answer.0 in
     record { over = sound_over e v law r _ _ _ s c.if-not-self.false; within = omega (arith, answer.1) }
 
@@ -23,7 +23,7 @@ returns g c =
     let e = g.V.View in
     let s = c.requires in
     let law : Lawful e v = record { sound = s.below; fits = g.met.V.View.fits v s.below; small = g.met.V.View.small v s.below } in
-    let answer = c.in-ok-l.ensures in (
+    let answer = c.in_ok-l.ensures in (
       answer.0,
       c.last-2.ensures ∙ ap (last r (textAt e v)) answer.1
           ∙ last_awake e.most r (e.stack v) (e.doc v) (sound_fits e v law r _ _ _ s) c.args.p answer.0 (sym s.knows ∙ c.if-not-self.false),

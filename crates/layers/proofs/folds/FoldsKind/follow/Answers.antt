@@ -11,16 +11,16 @@ use Rattle.layers.proofs.folds.FoldsKind.follow.Goals as goal
 pub follow-requires : goal.follow-requires
 follow-requires g c = (omega arith, behind_rooms g.V.View c.args.below.now fold (marks_of fold_mark c.args.self.now.table) c.args.change c.requires)
 
-pub overflow-add-result : goal.overflow-add-result
-overflow-add-result g c =
+pub overflow_add-result : goal.overflow_add-result
+overflow_add-result g c =
     let reach = behind_reach g.V.View c.args.below.now fold (marks_of fold_mark c.args.self.now.table) c.args.change c.requires in
     omega (arith, c.reach-low.ensures.high, c.requires.was, c.requires.new_fits, c.requires.low)
 
-pub overflow-sub-result : goal.overflow-sub-result
-overflow-sub-result g c = omega (arith, c.reach-low.ensures.high, highest_ge c.args.change.start c.args.change.old (marks_of fold_mark c.args.self.now.table))
+pub overflow_sub-result : goal.overflow_sub-result
+overflow_sub-result g c = omega (arith, c.reach-low.ensures.high, highest_ge c.args.change.start c.args.change.old (marks_of fold_mark c.args.self.now.table))
 
-pub overflow-sub-result-2 : goal.overflow-sub-result-2
-overflow-sub-result-2 g c =
+pub overflow_sub-result-2 : goal.overflow_sub-result-2
+overflow_sub-result-2 g c =
     let ms : List Mark = marks_of fold_mark c.args.self.now.table in
     omega (arith, c.reach-low.ensures.low, c.reach-low.ensures.high, highest_ge c.args.change.start c.args.change.old ms, lowest_le c.args.change.start c.args.change.old ms)
 

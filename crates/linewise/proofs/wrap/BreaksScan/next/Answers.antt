@@ -17,8 +17,8 @@ row_here g c =
     let goes : is_row_end (get_or t c.args.i 0) ≡ false = ap is_row_end (sym there) ∙ sym c.if-is_row_end.ensures in
     rest_more t c.args.i c.requires.within goes ∙ ap (λ (x : ℕ). x ∷ line_rest (drop (c.args.i + 1) t)) (sym there)
 
-pub overflow-sub-result-else-state-gt0-2 : goal.overflow-sub-result-else-state-gt0-2
-overflow-sub-result-else-state-gt0-2 g c =
+pub overflow_sub-result-else-state-gt0-2 : goal.overflow_sub-result-else-state-gt0-2
+overflow_sub-result-else-state-gt0-2 g c =
     let w = c.args.self.now.width in
     let t = textAt g.V.View c.args.below.now in
     let some = row_some w (omega (arith, c.args.self.now.stands.0)) c.args.code (line_rest (drop (c.args.i + 1) t)) in

@@ -12,7 +12,7 @@ kept d e a r w h k = let P : List ℕ → Type 0 = λ z. Keeps d z a r (length w
 
 pub returns : goal.returns
 returns g c =
-    let e = c.in-ok-edit.ensures.does in
+    let e = c.in_ok-edit.ensures.does in
     let d = g.B.Buffer.doc c.args.self.now.store in
     record {
       sound = tt;
