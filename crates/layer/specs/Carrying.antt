@@ -7,13 +7,13 @@ use Rattle.places.specs.declared.change.Change.{Change}
 use Rattle.places.specs.Changes.{Keeps, Kept}
 use Rattle.places.proofs.Keeping.{keeps_length}
 use Rattle.view.specs.Layers.{Records, shown, growth, Fit, follow, raised}
-use Rattle.view.specs.Stacks.{ceiling_of, awake, text_of, AllFit, Changed, carried}
+use Rattle.view.specs.Stacks.{ceiling_of, awake, text_of, AllFit, Means, Changed, carried}
 use Rattle.view.specs.declared.view.View.{Ghosts as Eyes}
 use Rattle.view.specs.Seen.{textAt}
 use Rattle.view.specs.Kinds.{Over, Behind, Raises}
 use Rattle.layer.specs.Sound.{Sound}
 use Rattle.layer.specs.Fitting.{follow_fit, follow_kept, follow_growth, growth_rises, grown_length}
-use Rattle.layer.specs.Stacking.{text_awake, text_asleep, text_le, ceiling_le, same_awake, same_ceiling}
+use Rattle.layer.specs.Stacking.{stack_means, text_awake, text_asleep, text_le, ceiling_le, same_awake, same_ceiling}
 
 -- what is told of a view by its laws
 pub record Lawful {V S : Type 0} (e : Eyes V S) (v : V) : Type 0 where
@@ -52,6 +52,11 @@ module _ {V S : Type 0} (e : Eyes V S) (v : V) (lawful : Lawful e v) where
   sound_fits r len top up s =
       let P : Bool → Type 0 = λ b. MatchBool b (Fit r (length (textAt e v))) (Unit {0}) in
       (lawful.fits, subst P s.knows s.fits)
+
+  -- so a sound layer over it means what its records and those below say
+  pub sound_means : (r : Records) (len top : ℕ) (up : Bool) → Sound e v r len top up → Means e.most (r ∷ e.stack v) (e.doc v)
+  sound_means r len top up s =
+      stack_means e.most (r ∷ e.stack v) (e.doc v) (sound_fits r len top up s) (omega (arith, lawful.small.0)) lawful.small.1
 
   pub sound_over : (r : Records) (len top : ℕ) (up : Bool) → Sound e v r len top up → up ≡ true → Over e v r
   sound_over r len top up s h = over r (sym s.knows ∙ h) (when_true _ _ h s.fits)

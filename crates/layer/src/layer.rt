@@ -9,9 +9,8 @@ ghost use Rattle.view.specs.Layers.{shown, growth, follow as followed};
 ghost use Rattle.view.specs.Seen.{textAt};
 ghost use Rattle.view.specs.Kinds.{Over, Behind, Raises};
 ghost use Rattle.layer.specs.Sound.{Sound};
-ghost use Rattle.std.proofs.Common.{arith, rules};
-ghost use Rattle.layer.specs.Stacking.{stack_means};
-ghost use Rattle.layer.specs.Carrying.{Lawful, sound_fits};
+ghost use Rattle.std.proofs.Common.{rules};
+ghost use Rattle.layer.specs.Carrying.{sound_means};
 
 use places::change::Change;
 use view::fault::{Cause, ViewFault, rise};
@@ -84,11 +83,8 @@ impl<V: View, K: Kind> View for Layer<V, K> {
     ghost fits = { Prim.search rules };
 
     ghost means = { λ l s.
-        let e = V.View in
-        let v = l.below in
-        let r = K.Kind.records l.kind in
-        let law : Lawful e v = record { sound = s.below; fits = V.View.fits v s.below; small = V.View.small v s.below } in
-        stack_means e.most (r ∷ e.stack v) (e.doc v) (sound_fits e v law r l.len l.ceiling l.awake s) (omega (arith, law.small.0)) law.small.1 };
+        sound_means V.View.own l.below (record { sound = s.below; fits = V.View.fits l.below s.below; small = V.View.small l.below s.below })
+            (K.Kind.records l.kind) l.len l.ceiling l.awake s };
 
     ghost small = { Prim.search rules };
 
