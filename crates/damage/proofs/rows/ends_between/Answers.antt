@@ -3,7 +3,7 @@ use Rattle.codes.specs.Codes.{is_row_end}
 use Rattle.view.specs.Seen.{textAt}
 use Rattle.damage.proofs.Counting.{ends_here, ends_same, ends_counted, ends_few}
 use Rattle.damage.proofs.rows.ends_between.Goals as goal
-use Rattle.damage.proofs.rows.ends_between.Goals.{then-is-row-end, else-is-row-end}
+use Rattle.damage.proofs.rows.ends_between.Goals.{then-is_row_end, else-is_row_end}
 
 pub overflow_add-ends : goal.overflow_add-ends
 overflow_add-ends g c =
@@ -22,11 +22,11 @@ loop-i-preserved g c =
     let inside : i < length t = omega (arith, c.len.ensures, c.min-i-end.ensures) in
     let count = c.loop-i.invariant.1 in
     elim c.if-is_row_end.branch [
-      | then-is-row-end w ↦
-          let is-end : is_row_end (get_or t i 0) ≡ true = ap is_row_end (sym c.code_at.ensures) ∙ sym w.if-is-row-end.ensures in
+      | then-is_row_end w ↦
+          let is-end : is_row_end (get_or t i 0) ≡ true = ap is_row_end (sym c.code_at.ensures) ∙ sym w.if-is_row_end.ensures in
           (omega arith, omega (arith, w.ends-is, ends_here t i inside is-end))
-      | else-is-row-end w ↦
-          let no_end : is_row_end (get_or t i 0) ≡ false = ap is_row_end (sym c.code_at.ensures) ∙ sym w.if-is-row-end.ensures in
+      | else-is_row_end w ↦
+          let no_end : is_row_end (get_or t i 0) ≡ false = ap is_row_end (sym c.code_at.ensures) ∙ sym w.if-is_row_end.ensures in
           (omega arith, omega (arith, w.ends-is, ends_same t i inside no_end))
     ]
 

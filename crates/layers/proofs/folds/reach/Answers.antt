@@ -3,7 +3,7 @@ use Rattle.std.proofs.lemmas.List.{at_drop_all}
 use Rattle.places.specs.Marks.{Mark, lowest, highest}
 use Rattle.layers.proofs.Dropping.{Reached, reached_none, reached_all, next_gone, next_kept}
 use Rattle.layers.proofs.folds.reach.Goals as goal
-use Rattle.layers.proofs.folds.reach.Goals.{then-is-dropped, else-is-dropped}
+use Rattle.layers.proofs.folds.reach.Goals.{then-is_dropped, else-is_dropped}
 
 pub loop-record-init : goal.loop-record-init
 loop-record-init g c = reached_none c.args.change.start c.args.change.old (map g.R.Record.mark c.records-records.result.now)
@@ -11,12 +11,12 @@ loop-record-init g c = reached_none c.args.change.start c.args.change.old (map g
 pub loop-record-preserved : goal.loop-record-preserved
 loop-record-preserved g c =
     elim c.if-is_dropped.branch [
-      | then-is-dropped w ↦
+      | then-is_dropped w ↦
           next_gone g.R.Record.mark c.args.change.start c.args.change.old (map g.R.Record.mark c.records-records.result.now) c.records-records.result.now c.loop-record.record-index c.record-item.result c.loop-record.low c.loop-record.high c.loop-record-test.true c.record-item.is c.loop-record.invariant c.if-is_dropped.low c.if-is_dropped.high
-          (sym w.if-is-dropped.ensures) (w.low-is ∙ w.min-low.ensures ∙ ap (min c.loop-record.low) w.place.ensures) (w.high-is ∙ w.max-high.ensures ∙ ap (max c.loop-record.high) w.past.ensures)
-      | else-is-dropped w ↦
+          (sym w.if-is_dropped.ensures) (w.low-is ∙ w.min-low.ensures ∙ ap (min c.loop-record.low) w.place.ensures) (w.high-is ∙ w.max-high.ensures ∙ ap (max c.loop-record.high) w.past.ensures)
+      | else-is_dropped w ↦
           next_kept g.R.Record.mark c.args.change.start c.args.change.old (map g.R.Record.mark c.records-records.result.now) c.records-records.result.now c.loop-record.record-index c.record-item.result c.loop-record.low c.loop-record.high c.loop-record-test.true c.record-item.is c.loop-record.invariant c.if-is_dropped.low c.if-is_dropped.high
-          (sym w.if-is-dropped.ensures) w.low-is w.high-is
+          (sym w.if-is_dropped.ensures) w.low-is w.high-is
     ]
 
 pub returns : goal.returns

@@ -44,7 +44,7 @@ returns g c =
     let Q : ℕ → Type 0 = λ l. Adds fold ms (fold_causes ms a l x) ms' c.args.self.now c.add.new.self a l [] c.add.result in
     adding fold ms ms' c.args.self.now c.add.new.self (textAt g.V.View c.args.below.now) n a b c.args.order c.args.w.now
     (fold_causes ms a b x)
-    (other_verb c.args.order.verb 102 117 c.requires.own_val c.if-order-eq117.false)
+    (other_verb c.args.order.verb 102 117 c.requires.own c.if-order-eq117.false)
     (cond-false (ltb n x) _ _ (le-ltb n x c.in-Ok.ensures.0) ∙ cond-false (ltb n y) _ _ (le-ltb n y c.in-Ok-first.ensures.0) ∙ cond-false (leb y x) _ _ (lt-leb y x c.if-order.false))
     (first_le (under_of g.V.View.most (g.V.View.stack c.args.below.now) (g.V.View.doc c.args.below.now)) (length (textAt g.V.View c.args.below.now)) x)
     (over_counted g.V.View c.args.below.now fold ms c.requires.over)

@@ -23,6 +23,6 @@ returns g c = record {
       (λ some.
       elim c.if-change-eq0.branch [
         | then-change-eq0 w ↦ absurd (some w.if-change-eq0.true)
-        | else-change-eq0 w ↦ w.old-is ∙ w.saturating-sub-old.ensures ∙ ap (λ (z : ℕ). z - c.last_over-start.result) (w.first-over.ensures xs kept.old_fits ok)
+        | else-change-eq0 w ↦ w.old-is ∙ w.saturating_sub-old.ensures ∙ ap (λ (z : ℕ). z - c.last_over-start.result) (w.first_over.ensures xs kept.old_fits ok)
       ]);
 }

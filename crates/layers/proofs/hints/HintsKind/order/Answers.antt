@@ -40,7 +40,7 @@ returns g c =
     let P : ℕ → Type 0 = λ l. Adds hint ms (hint_causes ms w) ms' c.args.self.now c.add.new.self l l w c.add.result in
     adding hint ms ms' c.args.self.now c.add.new.self (textAt g.V.View c.args.below.now) n (first_at g.V.View c.args.below.now c.args.order.x) (first_at g.V.View c.args.below.now c.args.order.y) c.args.order w
     (hint_causes ms w)
-    (other_verb c.args.order.verb 105 114 c.requires.own_val c.if-order-eq114.false)
+    (other_verb c.args.order.verb 105 114 c.requires.own c.if-order-eq114.false)
     (cond-false (ltb n c.args.order.x) _ _ (le-ltb n c.args.order.x c.in-Ok.ensures.0))
     (first_le (under_of g.V.View.most (g.V.View.stack c.args.below.now) (g.V.View.doc c.args.below.now)) (length (textAt g.V.View c.args.below.now)) c.args.order.x)
     (over_counted g.V.View c.args.below.now hint ms c.requires.over)
