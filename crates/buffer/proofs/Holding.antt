@@ -1,5 +1,5 @@
 -- What cells with a gap hold, before an edit and after it. Assumes nothing.
-use Rattle.std.proofs.Common.{◌≡◌, ℕ, ◌+◌, ◌-◌, ◌≤◌, List, ◌++◌, length, take, drop, sym, refl, ap, ◌∙◌, arith}
+use Rattle.std.proofs.Common.{◌≡◌, ℕ, ◌+◌, ◌-◌, ◌≤◌, List, ◌++◌, length, take, drop, sym, ap, ◌∙◌, arith}
 use Rattle.std.proofs.lemmas.List.{drop_all, drop-drop, append-nil, append_assoc, length-append, length-take, length-drop}
 use Rattle.buffer.specs.declared.gap.Gap.{Gap}
 use Rattle.buffer.specs.Documents.{edited}

@@ -1,5 +1,5 @@
 -- Cells in which the gap moves, and what they then hold of the document. Assumes nothing.
-use Rattle.std.proofs.Common.{◌≡◌, ℕ, ◌+◌, ◌-◌, ◌<◌, ◌≤◌, List, ◌++◌, length, get_or, take, drop, sym, refl, ap, ◌∙◌, arith, rules}
+use Rattle.std.proofs.Common.{◌≡◌, ℕ, ◌+◌, ◌-◌, ◌<◌, ◌≤◌, List, length, take, drop, arith, rules}
 use lib.Seq.{paste}
 use Rattle.std.proofs.lemmas.List.{places, same_lists}
 use Rattle.buffer.specs.Gaps.{ends}

@@ -1,5 +1,5 @@
 -- What each fault of a buffer stands for, and which calls are refused with which. Assumes nothing.
-use Rattle.std.specs.Prelude.{ℕ, ◌-◌, Bool, cond, ◌&&◌, List, length, take, Some, None, Option, ◌==◌, nat_le, nat_lt}
+use Rattle.std.specs.Prelude.{ℕ, ◌-◌, cond, ◌&&◌, List, length, take, Some, None, Option, ◌==◌, nat_le, nat_lt}
 use Rattle.std.specs.List.{prefix_len}
 use Rattle.codes.specs.Codes.{is_document_code}
 use Rattle.buffer.specs.declared.fault.BufferFault.{BufferFault}

@@ -76,7 +76,7 @@ mod tests {
         let text = encode_text(rt.alloc(), &codes)?;
         assert_eq!(rt; text.as_str(), "aé⋯😀");
         let back = decode_text(rt.alloc(), text.as_bytes())?;
-        assert!(rt; back.as_slice() == &codes);
+        assert!(rt; back.as_slice() == codes.as_slice());
         Ok(())
     }
 

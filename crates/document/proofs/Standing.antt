@@ -1,6 +1,6 @@
 -- A word stands at a place exactly where each of its codes does. Assumes nothing.
-use Rattle.std.proofs.Common.{◌≡◌, ℕ, ◌+◌, ◌-◌, ◌<◌, ◌≤◌, true, false, List, length, get_or, take, drop, Decides, sym, refl, ap, ◌∙◌, arith, rules}
-use Rattle.std.proofs.lemmas.List.{places, same_lists, ext_get_or, length-take, length-drop, get_or-take, get_or-drop}
+use Rattle.std.proofs.Common.{◌≡◌, ℕ, ◌+◌, ◌<◌, ◌≤◌, true, false, List, length, get_or, take, drop, Decides, sym, refl, ap, ◌∙◌, arith}
+use Rattle.std.proofs.lemmas.List.{ext_get_or, length-take, length-drop, get_or-take, get_or-drop}
 use Rattle.document.specs.Words.{StandsAt}
 
 pub decides_no : {P : Type 0} → (P → ⊥) → Decides false P

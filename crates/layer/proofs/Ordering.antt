@@ -1,5 +1,5 @@
 -- A sound layer that has carried out an order of its own. Assumes nothing.
-use Rattle.std.proofs.Common.{◌≡◌, ℕ, ◌≤◌, Bool, true, false, cond, List, [], ◌∷◌, length, None, MatchBool, sym, refl, ap, ◌∙◌, subst}
+use Rattle.std.proofs.Common.{◌≡◌, ℕ, ◌≤◌, Bool, true, List, ◌∷◌, length, None, sym, refl, ap, ◌∙◌, subst}
 use Rattle.std.proofs.lemmas.Bool.Decides.{when_true}
 use Rattle.places.specs.declared.change.Change.{Change}
 use Rattle.places.specs.Changes.{Kept}
@@ -7,7 +7,7 @@ use Rattle.places.proofs.Finding.{first_le}
 use Rattle.view.specs.declared.order.Order.{Order}
 use Rattle.view.specs.Layers.{Records, shown, growth, Fit}
 use Rattle.view.specs.Orders.{own_refusal, obeyed, obeyed_change}
-use Rattle.view.specs.Stacks.{awake, ceiling_of, text_of, under_of}
+use Rattle.view.specs.Stacks.{awake, text_of, under_of}
 use Rattle.view.specs.declared.view.View.{Ghosts as Eyes}
 use Rattle.view.specs.Seen.{textAt, first_at}
 use Rattle.view.specs.Kinds.{Over}

@@ -1,10 +1,10 @@
 -- A sound layer, and what it is after a change of the view below. Assumes nothing.
-use Rattle.std.specs.Prelude.{◌≡◌, ℕ, ◌+◌, ◌-◌, ◌<◌, ◌≤◌, Bool, true, false, cond, List, [], ◌∷◌, length, MatchBool, refl}
+use Rattle.std.specs.Prelude.{◌≡◌, ℕ, ◌+◌, ◌-◌, ◌≤◌, Bool, true, false, cond, List, ◌∷◌, length, MatchBool, refl}
 use Rattle.std.proofs.Common.{sym, ap, subst, ◌∙◌, ⊎_elim, arith}
 use Rattle.std.proofs.lemmas.Bool.Decides.{when_true, when_false, nat_tests}
 use Rattle.std.proofs.lemmas.Bool.{cond-true, cond-false, cases_Bool}
 use Rattle.places.specs.declared.change.Change.{Change}
-use Rattle.places.specs.Changes.{Keeps, Kept}
+use Rattle.places.specs.Changes.{Kept}
 use Rattle.places.proofs.Keeping.{keeps_length}
 use Rattle.view.specs.Layers.{Records, shown, growth, Fit, follow, raised}
 use Rattle.view.specs.Stacks.{ceiling_of, awake, text_of, AllFit, Means, Changed, carried}

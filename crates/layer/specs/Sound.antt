@@ -1,11 +1,9 @@
 -- What a layer keeps true beside its records. Assumes nothing.
-use Rattle.std.specs.Prelude.{◌≡◌, ℕ, Bool, true, cond, List, ◌∷◌, length, MatchBool}
-use Rattle.places.specs.declared.change.Change.{Change}
-use Rattle.view.specs.Layers.{Records, Fit, follow, raised}
+use Rattle.std.specs.Prelude.{◌≡◌, ℕ, Bool, ◌∷◌, length, MatchBool}
+use Rattle.view.specs.Layers.{Records, Fit}
 use Rattle.view.specs.Stacks.{text_of, ceiling_of, awake}
 use Rattle.view.specs.declared.view.View.{Ghosts as Eyes}
 use Rattle.view.specs.Seen.{textAt}
-use Rattle.view.specs.Kinds.{Behind, Raises}
 
 -- a layer with the records r over the view v: its length and its ceiling are those of its text, it knows whether it is
 -- awake, and its records fit if it is

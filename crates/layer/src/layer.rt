@@ -84,7 +84,7 @@ impl<V: View, K: Kind> View for Layer<V, K> {
 
     ghost means = { λ l s.
         sound_means V.View.own l.below (record { sound = s.below; fits = V.View.fits l.below s.below; small = V.View.small l.below s.below })
-            (K.Kind.records l.kind) l.len l.ceiling l.awake s };
+        (K.Kind.records l.kind) l.len l.ceiling l.awake s };
 
     ghost small = { Prim.search rules };
 

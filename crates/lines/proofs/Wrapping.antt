@@ -1,5 +1,5 @@
 -- What soft wrap does to a text, row by row. Assumes nothing.
-use Rattle.std.proofs.Common.{◌≡◌, ℕ, zero, suc, ◌+◌, ◌-◌, ◌<◌, ◌≤◌, Bool, true, false, cond, ltb, List, [], ◌∷◌, ◌++◌, length, get_or, take, drop, sym, refl, ap, ◌∙◌, subst, inl, inr, ⊎_elim, append_assoc, arith, length-append, length-take, take_at}
+use Rattle.std.proofs.Common.{◌≡◌, ℕ, zero, suc, ◌+◌, ◌-◌, ◌<◌, ◌≤◌, true, false, cond, ltb, List, [], ◌∷◌, ◌++◌, length, get_or, take, drop, sym, refl, ap, ◌∙◌, subst, inl, inr, ⊎_elim, append_assoc, arith, length-append, length-take, take_at}
 use Rattle.std.specs.List.{AllByRecursion as All}
 use Rattle.std.proofs.lemmas.Bool.Decides.{nat_tests}
 use Rattle.std.proofs.lemmas.List.{get_or-take}
@@ -11,7 +11,7 @@ use Rattle.lines.specs.Lines.{line_rest, rest_length, behind_last}
 use Rattle.lines.specs.Rows.{before, rows, broken_rows}
 use Rattle.lines.specs.Transducers.{pieces_from, text_by}
 use Rattle.lines.specs.Wraps.{is_space, row_length, soft_wrap}
-use Rattle.lines.specs.Laws.{without_breaks, unbroken, spaceless, WellBroken, RowsFit, RowsWellBroken, BreaksTakenOut, ShortLinesStay, LongLinesBreak, LinesWrapAlone}
+use Rattle.lines.specs.Laws.{without_breaks, unbroken, spaceless, WellBroken, RowsFit, RowsWellBroken, BreaksTakenOut, ShortLinesStay, LongLinesBreak}
 
 -- the wrapped text by one recursion, where the row still takes k codes
 abbrev wrapped_from : (List ℕ → ℕ) → ℕ → List ℕ → List ℕ

@@ -1,5 +1,5 @@
 -- The change that tab stops and soft wrap answer, from the new text below and the old length alone. Assumes nothing.
-use Rattle.std.proofs.Common.{◌≡◌, ℕ, ◌+◌, ◌-◌, ◌≤◌, List, length, sym, refl, ap, ◌∙◌, arith}
+use Rattle.std.proofs.Common.{◌≡◌, ℕ, ◌+◌, ◌-◌, ◌≤◌, List, length, sym, ap, ◌∙◌}
 use Rattle.places.specs.declared.change.Change.{Change}
 use Rattle.places.specs.Changes.{Kept}
 use Rattle.lines.specs.Lines.{line_start, line_end}

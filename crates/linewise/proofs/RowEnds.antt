@@ -1,11 +1,11 @@
 -- A row that is broken: what a walk from its start knows, and where it ends. Assumes nothing.
-use Rattle.std.proofs.Common.{◌≡◌, ℕ, suc, ◌+◌, ◌-◌, ◌<◌, ◌≤◌, min, Bool, true, false, cond, eqb, ltb, leb, List, [], ◌∷◌, ◌++◌, length, get_or, take, drop, sym, refl, ap, ◌∙◌, subst, append_assoc, arith, length-append, length-drop}
+use Rattle.std.proofs.Common.{◌≡◌, ℕ, ◌+◌, ◌-◌, ◌<◌, ◌≤◌, false, cond, eqb, List, [], ◌∷◌, ◌++◌, length, get_or, take, drop, sym, ap, ◌∙◌, subst, append_assoc, arith, length-append, length-drop}
 use Rattle.std.proofs.lemmas.List.{take_more, get_or-drop, length-take, append-nil, take_at}
 use Rattle.std.proofs.lemmas.Bool.Decides.{nat_tests}
 use Rattle.codes.specs.Codes.{is_row_end}
 use Rattle.lines.specs.Lines.{line_rest, behind_last}
-use Rattle.lines.specs.Wraps.{is_space, row_length, row_end}
-use Rattle.lines.proofs.Stepping.{behind_here, behind_same, rest_here, rest_more, rest_all}
+use Rattle.lines.specs.Wraps.{is_space, row_end}
+use Rattle.lines.proofs.Stepping.{behind_here, behind_same, rest_more, rest_all}
 
 -- the first j codes from the place p on are in one row, and s is the place behind the last space among them
 pub record InRow (w : ℕ) (xs : List ℕ) (p j s : ℕ) : Type 0 where

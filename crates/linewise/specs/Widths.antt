@@ -1,12 +1,10 @@
 -- Widths that a layer takes: its states can be counted, and so can what it shows. Assumes nothing.
-use Rattle.std.specs.Prelude.{◌≡◌, ℕ, ◌+◌, ◌-◌, ◌*◌, ◌<◌, ◌≤◌, Bool, true, false, cond, not, ltb, leb, List, [], ◌∷◌, length, None}
-use Rattle.std.proofs.Common.{sym, ap, ◌∙◌, arith}
+use Rattle.std.specs.Prelude.{◌≡◌, ℕ, ◌*◌, ◌≤◌, ◌∷◌, length, None}
+use Rattle.std.proofs.Common.{arith}
 use Rattle.std.proofs.lemmas.Bool.Decides.{nat_tests}
-use Rattle.codes.specs.Codes.{is_row_end}
 use Rattle.places.specs.declared.change.Change.{Change}
 use Rattle.lines.specs.Lines.{line_rest}
-use Rattle.lines.specs.Tabs.{tab_shown, tab_stops}
-use Rattle.lines.specs.Transducers.{Transducer, text_by}
+use Rattle.lines.specs.Tabs.{tab_stops}
 use Rattle.lines.specs.Wraps.{row_length, soft_wrap}
 use Rattle.lines.proofs.Scanning.{text_grows}
 use Rattle.lines.proofs.Steadiness.{tabs_shown_le, wrap_shown_le}

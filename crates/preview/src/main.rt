@@ -1,5 +1,5 @@
-// A part program as a setter sees it on a narrow screen: a hint behind a depth, a fold over the tool change, tab stops and
-// soft wrap, each row with the document line that it begins in, and orders that are refused.
+// A part program as a setter sees it: a hint behind a depth and a fold over the tool change, each row with the document
+// line that it begins in, and an order that is refused.
 #![tactic(auto)]
 
 use anyhow::anyhow;
@@ -11,8 +11,6 @@ use document::lines::line_at;
 use layer::layer::Layer;
 use layers::folds::Folds;
 use layers::hints::Hints;
-use linewise::tabs::Tabs;
-use linewise::wrap::Wrap;
 use places::change::Change;
 use std::alloc::Global;
 use view::bare::Bare;
@@ -23,19 +21,12 @@ use view::rows::row_from;
 use view::view::View;
 
 // Folds over hints over a gap buffer.
-type Folded<'a> = Layer<Layer<Bare<GapBuffer<'a>>, Hints>, Folds>;
-
-// Soft wrap over tab stops over these.
-type Layered<'a> = Layer<Layer<Folded<'a>, Tabs>, Wrap>;
+type Layered<'a> = Layer<Layer<Bare<GapBuffer<'a>>, Hints>, Folds>;
 
 // The steps from the top of the view to its layers.
-const WRAP: u32 = 0;
+const FOLDS: u32 = 0;
 
-const TABS: u32 = 1;
-
-const FOLDS: u32 = 2;
-
-const HINTS: u32 = 3;
+const HINTS: u32 = 1;
 
 const PART_PROGRAM: &str = "%\n\
 O4711 (FLANGE, BORE Ø32 H7)\n\
@@ -44,7 +35,7 @@ N20 T12 M6\t(BORING BAR)\n\
 N30 S850 M3\n\
 N40 G0 X60. Y40.\n\
 N50 G43 Z50. H12 M8\n\
-N60 G98 G86 Z-45. R2. F68\t(DEPTH 45)\n\
+N60 G98 G86 Z-45. R2. F68\n\
 N70 X120.\n\
 N80 G80 G0 Z100. M9\n\
 N90 M30\n\
@@ -126,34 +117,6 @@ fn show_answer(
     Ok(())
 }
 
-// Sets the two widths, and has one refused that is too narrow.
-fn set_widths<V: View>(rt: &HostRuntime, view: &mut V) -> anyhow::Result<()>
-    requires { V.View.sound view.old }
-    ensures { V.View.sound view.new }
-{
-    let stops = Order {
-        verb: 't',
-        x: 4,
-        y: 0,
-    };
-    let answer = view.order(TABS, stops, &[]);
-    show_answer(rt, "tab stops by 4", answer)?;
-    let narrow = Order {
-        verb: 'w',
-        x: 24,
-        y: 0,
-    };
-    let answer = view.order(WRAP, narrow, &[]);
-    show_answer(rt, "rows of 24", answer)?;
-    let narrower = Order {
-        verb: 'w',
-        x: 1,
-        y: 0,
-    };
-    let answer = view.order(WRAP, narrower, &[]);
-    show_answer(rt, "rows of 1", answer)
-}
-
 // Puts the hint in and folds, and has one order refused.
 fn arrange<V: View>(rt: &HostRuntime, view: &mut V, document: &GapBuffer) -> anyhow::Result<()>
     requires { V.View.sound view.old }
@@ -189,7 +152,6 @@ fn run(rt: &HostRuntime) -> anyhow::Result<()> {
     let store = open(cells.as_mut_slice(), n).buffer;
     let mut view = Layered::open(store);
     arrange(rt, &mut view, &document)?;
-    set_widths(rt, &mut view)?;
     show_rows(rt, &view, &document)
 }
 

@@ -1,5 +1,5 @@
 -- How one record follows a change below, and what a table of records means. Assumes nothing.
-use Rattle.std.specs.Prelude.{ℕ, ◌+◌, ◌^◌, ◌<◌, Bool, cond, ◌||◌, List, map, nat_le}
+use Rattle.std.specs.Prelude.{◌+◌, ◌^◌, ◌<◌, Bool, cond, ◌||◌, nat_le}
 use Rattle.places.specs.declared.change.Change.{Change}
 use Rattle.places.specs.Marks.{Mark, past, moved}
 

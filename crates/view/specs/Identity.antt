@@ -1,7 +1,6 @@
 -- The map of a bare view: every place lies under itself. Assumes nothing.
 use Rattle.std.specs.Prelude.{◌≡◌, ℕ, ◌≤◌, List, [], length, refl}
-use Rattle.std.proofs.Common.{sym}
-use Rattle.places.specs.Maps.{first_of, last_of, Rises, Finds}
+use Rattle.places.specs.Maps.{first_of, last_of, Finds}
 use Rattle.places.proofs.Finding.{searches_find, first_found, last_found}
 use Rattle.view.specs.Stacks.{Means}
 

@@ -7,7 +7,7 @@ use Rattle.view.specs.declared.order.Order.{Order}
 use Rattle.view.specs.Refusals.{cause_refusal}
 use Rattle.view.specs.Layers.{Records, shown, growth, Fit, raised}
 use Rattle.view.specs.Orders.{own_refusal, obeyed, obeyed_change}
-use Rattle.view.specs.Seen.{Eyes, textAt, first_at}
+use Rattle.view.specs.Seen.{Eyes, textAt}
 
 -- records that fit over a sound view, where neither text is too long to count, whatever the records of that kind are
 pub record Over {V S : Type 0} (e : Eyes V S) (v : V) (r : Records) : Type 0 where

@@ -1,5 +1,5 @@
 -- What a layer does on an order that is meant for it, and why it refuses one. Assumes nothing.
-use Rattle.std.specs.Prelude.{ℕ, ◌-◌, Bool, cond, not, ◌&&◌, ◌||◌, List, [], ◌∷◌, length, Some, None, Option, ◌==◌, nat_le, nat_lt}
+use Rattle.std.specs.Prelude.{ℕ, ◌-◌, Bool, cond, not, ◌&&◌, ◌||◌, List, [], ◌∷◌, length, Option, ◌==◌, nat_le, nat_lt}
 use Rattle.std.specs.List.{prefix_len}
 use Rattle.codes.specs.Codes.{is_document_code, newline, placeholder, within}
 use Rattle.buffer.specs.declared.fault.Refusal.{Refusal}

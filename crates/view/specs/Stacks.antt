@@ -1,5 +1,5 @@
 -- A stack: the records of its layers, top first, over a buffer whose most is `most`. Assumes nothing.
-use Rattle.std.specs.Prelude.{◌≡◌, ℕ, zero, suc, ◌+◌, ◌≤◌, min, Bool, cond, List, [], ◌∷◌, length, Some, None, MatchBool, Option, nat_le, nat_lt}
+use Rattle.std.specs.Prelude.{ℕ, zero, suc, ◌≤◌, Bool, cond, List, [], ◌∷◌, length, Some, None, MatchBool, Option, nat_le, nat_lt}
 use Rattle.std.specs.Option.{option_map}
 use Rattle.buffer.specs.declared.fault.Refusal.{Refusal}
 use Rattle.buffer.specs.Refusals.{told, edit_refusal}

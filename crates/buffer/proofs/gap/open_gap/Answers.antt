@@ -1,4 +1,4 @@
-use Rattle.std.proofs.Common.{◌≡◌, ℕ, ◌+◌, ◌-◌, length, drop, refl, ap, ◌∙◌, arith}
+use Rattle.std.proofs.Common.{◌≡◌, ◌+◌, ◌-◌, length, drop, refl, ap, ◌∙◌, arith}
 use lib.Seq.{paste}
 use Rattle.buffer.proofs.Moving.{parted_up, parted_down, parted_here}
 use Rattle.buffer.proofs.gap.open_gap.Goals as goal

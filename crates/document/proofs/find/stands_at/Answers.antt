@@ -1,4 +1,4 @@
-use Rattle.std.proofs.Common.{◌≡◌, ◌∙◌, arith}
+use Rattle.std.proofs.Common.{◌∙◌, arith}
 use Rattle.document.proofs.Standing.{decides_no, decides_yes, stands_inside, stands_code, stands_from}
 use Rattle.document.proofs.find.stands_at.Goals as goal
 

@@ -1,4 +1,4 @@
-use Rattle.std.proofs.Common.{◌≡◌, sym, ◌∙◌, arith}
+use Rattle.std.proofs.Common.{sym, ◌∙◌, arith}
 use Rattle.document.proofs.Lining.{end_all, end_here, end_more}
 use Rattle.document.proofs.lines.line_end.Goals as goal
 

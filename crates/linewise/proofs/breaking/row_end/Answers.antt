@@ -1,8 +1,6 @@
-use Rattle.std.proofs.Common.{◌≡◌, ℕ, ◌+◌, ◌-◌, ◌<◌, ◌≤◌, true, false, cond, eqb, length, get_or, drop, sym, ap, ◌∙◌, subst, arith}
+use Rattle.std.proofs.Common.{◌≡◌, ℕ, ◌-◌, true, false, get_or, sym, ap, ◌∙◌, subst, arith}
 use Rattle.std.proofs.lemmas.Bool.Decides.{nat_tests}
 use Rattle.codes.specs.Codes.{is_row_end}
-use Rattle.lines.specs.Lines.{line_rest}
-use Rattle.lines.specs.Wraps.{row_length, row_end, is_space}
 use Rattle.view.specs.Seen.{textAt}
 use Rattle.lines.proofs.Stepping.{rest_all, rest_here}
 use Rattle.linewise.proofs.RowEnds.{InRow, in_row_none, row_past, row_closed_at, row_full_at, in_row_more_at}

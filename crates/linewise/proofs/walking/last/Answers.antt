@@ -1,4 +1,4 @@
-use Rattle.std.proofs.Common.{◌≡◌, ℕ, suc, ◌+◌, ◌-◌, ◌≤◌, length, sym, ap, ◌∙◌, arith}
+use Rattle.std.proofs.Common.{◌≡◌, ℕ, suc, ◌+◌, ◌-◌, length, sym, ap, ◌∙◌, arith}
 use Rattle.lines.specs.Transducers.{reach_by, last_by}
 use Rattle.lines.proofs.Scanning.{last_reach, last_end, reach_all}
 use Rattle.view.specs.Seen.{textAt}

@@ -1,6 +1,5 @@
-use Rattle.std.proofs.Common.{◌≡◌, ℕ, ◌+◌, ◌-◌, ◌≤◌, length, sym, ap, ◌∙◌, arith}
-use Rattle.lines.specs.Lines.{line_end}
-use Rattle.lines.specs.Transducers.{reach_by, text_by}
+use Rattle.std.proofs.Common.{◌+◌, ap, arith}
+use Rattle.lines.specs.Transducers.{reach_by}
 use Rattle.lines.proofs.Lining.{line_end_fits}
 use Rattle.lines.proofs.Scanning.{reach_all}
 use Rattle.view.specs.Seen.{textAt}

@@ -1,4 +1,4 @@
-use Rattle.std.proofs.Common.{◌≡◌, ℕ, ◌≤◌, ap, ◌∙◌, arith}
+use Rattle.std.proofs.Common.{◌≡◌, ap, ◌∙◌, arith}
 use Rattle.lines.specs.Transducers.{reach_by}
 use Rattle.view.specs.Seen.{textAt}
 use Rattle.linewise.proofs.Walks.{walked_none, walked_more, reached_le}

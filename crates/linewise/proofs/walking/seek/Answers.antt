@@ -1,5 +1,4 @@
-use Rattle.std.proofs.Common.{◌≡◌, ℕ, ◌+◌, ◌<◌, ◌≤◌, length, sym, ap, ◌∙◌, arith}
-use Rattle.lines.specs.Transducers.{reach_by, text_by}
+use Rattle.std.proofs.Common.{◌+◌, ◌<◌, ◌≤◌, length, sym, ◌∙◌, arith}
 use Rattle.view.specs.Seen.{textAt}
 use Rattle.linewise.proofs.Walks.{walked_none, walked_more, reached_le, seek_under, seek_code, end_under, end_code}
 use Rattle.linewise.proofs.walking.seek.Goals as goal

@@ -1,4 +1,4 @@
-use Rattle.std.proofs.Common.{◌≡◌, ℕ, ◌-◌, ◌≤◌, true, false, get_or, sym, ap, ◌∙◌, arith}
+use Rattle.std.proofs.Common.{◌≡◌, ◌-◌, true, false, get_or, sym, ap, ◌∙◌, arith}
 use Rattle.codes.specs.Codes.{is_row_end}
 use Rattle.lines.specs.Lines.{line_start}
 use Rattle.view.specs.Seen.{textAt}

@@ -1,4 +1,4 @@
-use Rattle.std.proofs.Common.{◌≡◌, ◌+◌, ◌-◌, ◌≤◌, take, drop, vec_items}
+use Rattle.std.proofs.Common.{◌≡◌, ◌+◌, ◌-◌, take, drop, vec_items}
 use Rattle.std.specs.List.{prefix_len}
 use Rattle.view.specs.Rows.{is_in_row}
 use Rattle.view.specs.Seen.{textAt}

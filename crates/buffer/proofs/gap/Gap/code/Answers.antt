@@ -1,6 +1,5 @@
-use Rattle.std.proofs.Common.{refl, ap, arith, rules}
+use Rattle.std.proofs.Common.{refl, arith, rules}
 use Rattle.std.proofs.lemmas.List.{places}
-use Rattle.buffer.specs.Refusals.{told}
 use Rattle.buffer.proofs.gap.Gap.code.Goals as goal
 
 pub returns-then-index-gap : goal.returns-then-index-gap

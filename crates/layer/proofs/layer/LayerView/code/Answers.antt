@@ -1,6 +1,5 @@
-use Rattle.std.proofs.Common.{◌≡◌, length, sym, ap, ◌∙◌, arith}
-use Rattle.view.proofs.Answering.{code_same}
-use Rattle.layer.specs.Stacking.{text_awake, text_asleep}
+use Rattle.std.proofs.Common.{length, sym, ap, ◌∙◌, arith}
+use Rattle.layer.specs.Stacking.{text_awake}
 use Rattle.layer.specs.Carrying.{Lawful, sound_over}
 use Rattle.layer.proofs.layer.LayerView.code.Goals as goal
 

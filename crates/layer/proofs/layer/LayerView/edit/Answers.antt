@@ -1,4 +1,4 @@
-use Rattle.std.proofs.Common.{◌≡◌, ℕ, suc, List, ◌∷◌, length, Some, Ok, Err, Result, sym, refl, ap, ◌∙◌, subst, arith}
+use Rattle.std.proofs.Common.{◌≡◌, suc, length, Some, Result, sym, ap, ◌∙◌, subst}
 use Rattle.std.proofs.lemmas.Result.{err_from_is_err_and}
 use Rattle.buffer.specs.Refusals.{edit_refusal}
 use Rattle.view.specs.Refusals.{view_refusal, deeper}
@@ -6,7 +6,6 @@ use Rattle.layer.specs.Sound.{Sound}
 use Rattle.places.specs.declared.change.Change.{Change}
 use Rattle.places.specs.Changes.{Kept}
 use Rattle.view.specs.declared.fault.ViewFault.{ViewFault}
-use Rattle.view.specs.Layers.{Records}
 use Rattle.view.specs.Stacks.{ceiling_of, after_edit}
 use Rattle.view.specs.Views.{Edits}
 use Rattle.view.specs.Seen.{textAt}

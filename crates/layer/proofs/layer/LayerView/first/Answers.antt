@@ -1,7 +1,7 @@
-use Rattle.std.proofs.Common.{◌≡◌, ℕ, length, sym, ap, ◌∙◌, arith}
+use Rattle.std.proofs.Common.{sym, ap, ◌∙◌, arith}
 use Rattle.view.specs.Layers.{first}
 use Rattle.view.specs.Seen.{textAt}
-use Rattle.layer.specs.Stacking.{stack_finds, first_awake, first_asleep}
+use Rattle.layer.specs.Stacking.{stack_finds, first_awake}
 use Rattle.layer.specs.Carrying.{Lawful, sound_over, sound_fits}
 use Rattle.layer.proofs.layer.LayerView.first.Goals as goal
 

@@ -1,4 +1,4 @@
-use Rattle.std.proofs.Common.{◌≡◌, ℕ, leb, length, sym, ap, ◌∙◌, subst, arith}
+use Rattle.std.proofs.Common.{ℕ, leb, length, sym, ap, ◌∙◌, subst, arith}
 use Rattle.view.specs.Layers.{Records, growth, Fit}
 use Rattle.view.specs.Stacks.{ceiling_of}
 use Rattle.view.specs.Seen.{textAt}

@@ -1,12 +1,11 @@
-use Rattle.std.proofs.Common.{◌≡◌, ℕ, zero, suc, ◌-◌, ◌≤◌, true, false, List, ◌∷◌, length, Some, None, Ok, Err, Result, sym, refl, ap, ◌∙◌, subst, arith}
+use Rattle.std.proofs.Common.{◌≡◌, ℕ, zero, suc, ◌-◌, ◌≤◌, List, ◌∷◌, Some, Ok, Err, Result, sym, refl, ap, ◌∙◌, subst, arith}
 use Rattle.places.specs.declared.change.Change.{Change}
 use Rattle.places.specs.Changes.{Kept}
 use Rattle.view.specs.declared.fault.ViewFault.{ViewFault}
 use Rattle.view.specs.declared.order.Order.{Order}
 use Rattle.view.specs.Refusals.{view_refusal, deeper, meant_for}
 use Rattle.view.specs.Layers.{Records}
-use Rattle.view.specs.Orders.{has_verb}
-use Rattle.view.specs.Stacks.{ceiling_of, awake, after_order, carried, order_refusal_of}
+use Rattle.view.specs.Stacks.{ceiling_of, after_order, carried, order_refusal_of}
 use Rattle.view.specs.Views.{Obeys}
 use Rattle.view.specs.Seen.{textAt}
 use Rattle.layer.specs.Sound.{Sound}

@@ -1,4 +1,4 @@
-use Rattle.std.proofs.Common.{◌≡◌, ◌∷◌, length, sym, ap, ◌∙◌, arith}
+use Rattle.std.proofs.Common.{◌∷◌, length, sym, ap, ◌∙◌, arith}
 use Rattle.places.proofs.Finding.{under_in}
 use Rattle.view.specs.Layers.{under}
 use Rattle.view.specs.Stacks.{text_of, under_of}

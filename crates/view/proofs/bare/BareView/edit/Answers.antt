@@ -1,4 +1,4 @@
-use Rattle.std.proofs.Common.{◌≡◌, ℕ, ◌+◌, List, length, sym, refl, ap, subst}
+use Rattle.std.proofs.Common.{◌≡◌, ℕ, List, length, sym, refl, ap, subst}
 use Rattle.std.specs.Option.{option_map}
 use Rattle.buffer.specs.Documents.{edited}
 use Rattle.buffer.proofs.Refusing.{edit_inside}
