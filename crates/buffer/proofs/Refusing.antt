@@ -26,11 +26,11 @@ same_refusal a r w {n} {m} {s} {t} e q h k = ap (λ (i : ℕ). edit_refusal i t 
 
 -- once memory and length are right, the codes decide
 module _ (most : ℕ) (cells : List ℕ) (n good : ℕ) (small : length cells ≤ most) (inside : n ≤ length cells) (front : good ≡ prefix_len is_document_code (take (n - 0) cells)) where
-  good-front : good ≡ prefix_len is_document_code (take n cells)
-  good-front = let all : n - 0 ≡ n = omega arith in front ∙ ap (λ (m : ℕ). prefix_len is_document_code (take m cells)) all
+  good_front : good ≡ prefix_len is_document_code (take n cells)
+  good_front = let all : n - 0 ≡ n = omega arith in front ∙ ap (λ (m : ℕ). prefix_len is_document_code (take m cells)) all
 
   pub open_bad : good < n → Some (told 3 good) ≡ open_refusal most cells n
-  open_bad h = let e = good-front in let l = length-take-le n cells inside in grind (arith, nat_tests)
+  open_bad h = let e = good_front in let l = length-take-le n cells inside in grind (arith, nat_tests)
 
   pub open_good : n ≤ good → None ≡ open_refusal most cells n
-  open_good h = let e = good-front in let l = length-take-le n cells inside in grind (arith, nat_tests)
+  open_good h = let e = good_front in let l = length-take-le n cells inside in grind (arith, nat_tests)

@@ -11,23 +11,23 @@ module _ {R : Type 0} (measure : R → ℕ) (xs : List R) where
   pub running_more : (i : ℕ) (x : R) → i < length xs → x ≡ get_or xs i x → running_sum measure xs (i + 1) ≡ running_sum measure xs i + measure x
   running_more i x l e = sum_by_more measure xs i x l ∙ ap (λ (y : R). running_sum measure xs i + measure y) (sym e)
 
-  running-rises : (i j : ℕ) → i ≤ j → running_sum measure xs i ≤ running_sum measure xs j
-  running-rises i j h =
+  running_rises : (i j : ℕ) → i ≤ j → running_sum measure xs i ≤ running_sum measure xs j
+  running_rises i j h =
       let P : List R → Type 0 = λ ys. sum_by measure ys ≤ running_sum measure xs j in
       subst P (take-take i j xs h) (sum_by-take-le measure (take j xs) i)
 
   -- while the sum has not passed the limit, no record before has passed it
-  within-before : (limit i : ℕ) → running_sum measure xs i ≤ limit → (j : ℕ) → j < i → ltb limit (running_sum measure xs (suc j)) ≡ false
-  within-before limit i h j l = le-ltb limit (running_sum measure xs (suc j)) (omega (arith, running-rises (suc j) i l))
+  within_before : (limit i : ℕ) → running_sum measure xs i ≤ limit → (j : ℕ) → j < i → ltb limit (running_sum measure xs (suc j)) ≡ false
+  within_before limit i h j l = le-ltb limit (running_sum measure xs (suc j)) (omega (arith, running_rises (suc j) i l))
 
   pub passing_here : (limit i : ℕ) → i < length xs → running_sum measure xs i ≤ limit → limit < running_sum measure xs (i + 1) → passing_index measure xs limit ≡ i
   passing_here limit i l h past =
       let P : ℕ → Type 0 = λ j. limit < running_sum measure xs j in
-      least_is (λ k. ltb limit (running_sum measure xs (suc k))) (length xs) i (omega arith) (within-before limit i h) (λ _. lt-ltb limit (running_sum measure xs (suc i)) (subst P (add-one i) past))
+      least_is (λ k. ltb limit (running_sum measure xs (suc k))) (length xs) i (omega arith) (within_before limit i h) (λ _. lt-ltb limit (running_sum measure xs (suc i)) (subst P (add-one i) past))
 
   pub passing_none : (limit : ℕ) → running_sum measure xs (length xs) ≤ limit → passing_index measure xs limit ≡ length xs
   passing_none limit h =
-      least_is (λ k. ltb limit (running_sum measure xs (suc k))) (length xs) (length xs) (omega arith) (within-before limit (length xs) h) (λ l. absurd (omega arith))
+      least_is (λ k. ltb limit (running_sum measure xs (suc k))) (length xs) (length xs) (omega arith) (within_before limit (length xs) h) (λ l. absurd (omega arith))
 
   -- the records up to n, of a part that is cut at n or at the end
   pub running_cut : (n m i : ℕ) → m ≡ min n (length xs) → length (take m xs) ≤ i → running_sum measure (take m xs) i ≡ running_sum measure xs n

@@ -44,16 +44,16 @@ rows_behind t v = ap (λ z. drop (suc (ends_before t v)) (rows z)) (sym (take-ap
 rows_kept : (xs ys : List ℕ) (s o n f p q : ℕ) → Keeps xs ys s o n → f ≡ ends_before ys s → q ≡ ends_before ys (s + n) - f + 1
     → p ≡ q + length (rows xs) - length (rows ys) → Keeps (rows xs) (rows ys) f p q
 rows_kept xs ys s o n f p q k hf hq hp =
-    let old-front : ends_before xs s ≡ f = ap ends_in (sym k.front) ∙ sym hf in
-    let new-rise = ends_rise ys s (s + n) (omega arith) in
-    let old-rise = ends_rise xs s (s + o) (omega arith) in
+    let old_front : ends_before xs s ≡ f = ap ends_in (sym k.front) ∙ sym hf in
+    let new_rise = ends_rise ys s (s + n) (omega arith) in
+    let old_rise = ends_rise xs s (s + o) (omega arith) in
     let all_new = ends_split ys (s + n) in
     let all_old = ends_split xs (s + o) in
     let rest : ends_in (drop (s + n) ys) ≡ ends_in (drop (s + o) xs) = ap ends_in k.back in
-    let long-new = rows_counted ys in
-    let long-old = rows_counted xs in
-    let new-end : f + q ≡ suc (ends_before ys (s + n)) = omega arith in
-    let old-end : f + p ≡ suc (ends_before xs (s + o)) = omega arith in
+    let long_new = rows_counted ys in
+    let long_old = rows_counted xs in
+    let new_end : f + q ≡ suc (ends_before ys (s + n)) = omega arith in
+    let old_end : f + p ≡ suc (ends_before xs (s + o)) = omega arith in
     record {
       front =
           ap (λ z. take f (rows z)) (sym (take-append-drop s ys))
@@ -62,8 +62,8 @@ rows_kept xs ys s o n f p q k hf hq hp =
           ∙ ap (λ z. take z (rows (take s ys ++ drop s xs))) (sym hf)
           ∙ ap (λ z. take f (rows z)) (ap (λ z. z ++ drop s xs) k.front ∙ take-append-drop s xs);
       back =
-          ap (λ z. drop z (rows ys)) new-end ∙ rows_behind ys (s + n) ∙ ap (λ z. drop 1 (rows z)) k.back
-          ∙ sym (rows_behind xs (s + o)) ∙ ap (λ z. drop z (rows xs)) (sym old-end);
+          ap (λ z. drop z (rows ys)) new_end ∙ rows_behind ys (s + n) ∙ ap (λ z. drop 1 (rows z)) k.back
+          ∙ sym (rows_behind xs (s + o)) ∙ ap (λ z. drop z (rows xs)) (sym old_end);
       old_fits = omega arith;
       new_fits = omega arith;
     }
@@ -94,8 +94,8 @@ same_damage d e same_first same_old same_new =
 pub fitting_uncut : {X : Type 0} (xs zs : List X) (d : Damage) → Patches xs zs d → length xs < 2 ^ 32 → length zs < 2 ^ 32 → capped d ≡ d
 fitting_uncut xs zs d h old-small new-small =
     let old_below : min d.old (2 ^ 32 - 1) ≡ d.old = omega (arith, h.old_fits) in
-    let new-below : min d.new (2 ^ 32 - 1) ≡ d.new = omega (arith, h.new_fits) in
-    same_damage (capped d) d refl old_below new-below
+    let new_below : min d.new (2 ^ 32 - 1) ≡ d.new = omega (arith, h.new_fits) in
+    same_damage (capped d) d refl old_below new_below
 
 pub damages_stay_below : {X : Type 0} (xs ys zs : List X) (d e : Damage) → Patches xs ys d → Patches ys zs e
     → length xs < 2 ^ 32 → length zs < 2 ^ 32 → capped (followed_by d e) ≡ followed_by d e

@@ -26,17 +26,17 @@ module _ {X : Type 0} (old new : List X) (f p q : ℕ) where
       }
 
   -- a shorter front is kept too
-  keeps-front : (j : ℕ) → Keeps old new f p q → j ≤ f → take j new ≡ take j old
-  keeps-front j k h = sym (take-take j f new h) ∙ ap (take j) k.front ∙ take-take j f old h
+  keeps_front : (j : ℕ) → Keeps old new f p q → j ≤ f → take j new ≡ take j old
+  keeps_front j k h = sym (take-take j f new h) ∙ ap (take j) k.front ∙ take-take j f old h
 
   -- and a shorter back
-  keeps-back : (i j : ℕ) → Keeps old new f p q → f + q ≤ j → i + q ≡ j + p → drop j new ≡ drop i old
-  keeps-back i j k h e =
+  keeps_back : (i j : ℕ) → Keeps old new f p q → f + q ≤ j → i + q ≡ j + p → drop j new ≡ drop i old
+  keeps_back i j k h e =
       let more : ℕ = j - (f + q) in
-      let new-end : (f + q) + more ≡ j = omega arith in
-      let old-end : (f + p) + more ≡ i = omega arith in
-      ap (λ z. drop z new) (sym new-end) ∙ sym (drop-drop more (f + q) new) ∙ ap (drop more) k.back
-      ∙ drop-drop more (f + p) old ∙ ap (λ z. drop z old) old-end
+      let new_end : (f + q) + more ≡ j = omega arith in
+      let old_end : (f + p) + more ≡ i = omega arith in
+      ap (λ z. drop z new) (sym new_end) ∙ sym (drop-drop more (f + q) new) ∙ ap (drop more) k.back
+      ∙ drop-drop more (f + p) old ∙ ap (λ z. drop z old) old_end
 
 -- two changes in a row are one, from the least start f to the greatest end e
 pub keeps_twice : {X : Type 0} (xs ys zs : List X) (f₁ p₁ q₁ f₂ p₂ q₂ f e : ℕ) → f ≡ min f₁ f₂ → e ≡ max (f₁ + q₁) (f₂ + p₂)
@@ -46,13 +46,13 @@ keeps_twice xs ys zs f₁ p₁ q₁ f₂ p₂ q₂ f e starts ends k l =
     let q : ℕ = e - p₂ + q₂ - f in
     let long₁ = keeps_length xs ys f₁ p₁ q₁ k in
     let long₂ = keeps_length ys zs f₂ p₂ q₂ l in
-    let old-end : f + p + q₁ ≡ e + p₁ = omega arith in
-    let new-end : f + q + p₂ ≡ e + q₂ = omega arith in
+    let old_end : f + p + q₁ ≡ e + p₁ = omega arith in
+    let new_end : f + q + p₂ ≡ e + q₂ = omega arith in
     record {
-      front = keeps-front ys zs f₂ p₂ q₂ f l (omega arith) ∙ keeps-front xs ys f₁ p₁ q₁ f k (omega arith);
+      front = keeps_front ys zs f₂ p₂ q₂ f l (omega arith) ∙ keeps_front xs ys f₁ p₁ q₁ f k (omega arith);
       back =
-          keeps-back ys zs f₂ p₂ q₂ e (f + q) l (omega arith) (omega arith)
-          ∙ keeps-back xs ys f₁ p₁ q₁ (f + p) e k (omega arith) (omega arith);
+          keeps_back ys zs f₂ p₂ q₂ e (f + q) l (omega arith) (omega arith)
+          ∙ keeps_back xs ys f₁ p₁ q₁ (f + p) e k (omega arith) (omega arith);
       old_fits = omega (arith, k.new_fits, l.old_fits);
       new_fits = omega (arith, k.new_fits, l.old_fits);
     }

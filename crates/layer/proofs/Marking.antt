@@ -81,10 +81,10 @@ put_length m ms = omega (arith, split_length m.at ms, length-append (ended m.at 
 
 module _ (P : Mark → Type 0) where
   -- what holds of all marks holds of those that end by a place and of the others
-  split-all : (s : ℕ) (ms : List Mark) → All P ms → All P (ended s ms) × All P (unended s ms)
-  split-all s [] h = (tt, tt)
-  split-all s (m ∷ ms) h =
-      let rest = split-all s ms h.1 in (
+  split_all : (s : ℕ) (ms : List Mark) → All P ms → All P (ended s ms) × All P (unended s ms)
+  split_all s [] h = (tt, tt)
+  split_all s (m ∷ ms) h =
+      let rest = split_all s ms h.1 in (
         cond_both (leb (past m) s) (m ∷ ended s ms) [] (All P) (λ _. (h.0, rest.0)) (λ _. tt),
         cond_both (leb (past m) s) (unended s ms) (m ∷ ms) (All P) (λ _. rest.1) (λ _. h),
       )
@@ -92,7 +92,7 @@ module _ (P : Mark → Type 0) where
   -- what holds of all marks and of the one put holds of all after
   pub put_all : (m : Mark) (ms : List Mark) → P m → All P ms → All P (put m ms)
   put_all m ms here h =
-      let parts = split-all m.at ms h in
+      let parts = split_all m.at ms h in
       All-append P (ended m.at ms) (m ∷ unended m.at ms) parts.0 (here, parts.1)
 
   -- what holds of all marks holds of all but one

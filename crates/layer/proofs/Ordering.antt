@@ -20,32 +20,32 @@ module _ {V S : Type 0} (e : Eyes V S) (v : V) (lawful : Lawful e v) (r : Record
     (o : Order) (w : List ℕ) (q : Records)
     (taken : own_refusal r (length (e.doc v)) (first_at e v o.x) (first_at e v o.y) o w ≡ None)
     (is : q ≡ obeyed r (first_at e v o.x) (first_at e v o.y) o w) where
-  place-le : (p : ℕ) → first_at e v p ≤ length (textAt e v)
-  place-le p = first_le (under_of e.most (e.stack v) (e.doc v)) (length (textAt e v)) p
+  place_le : (p : ℕ) → first_at e v p ≤ length (textAt e v)
+  place_le p = first_le (under_of e.most (e.stack v) (e.doc v)) (length (textAt e v)) p
 
   fit : Fit q (length (textAt e v))
   fit =
       let P : Records → Type 0 = λ z. Fit z (length (textAt e v)) in
-      subst P (sym is) (obeyed_fit r (textAt e v) (length (e.doc v)) (first_at e v o.x) (first_at e v o.y) o w (when_true _ _ h s.fits) taken (place-le o.x) (place-le o.y))
+      subst P (sym is) (obeyed_fit r (textAt e v) (length (e.doc v)) (first_at e v o.x) (first_at e v o.y) o w (when_true _ _ h s.fits) taken (place_le o.x) (place_le o.y))
 
   same_kind : (n : ℕ) → growth q n ≡ growth r n
   same_kind n = ap (λ (z : Records). growth z n) is ∙ obeyed_growth r (first_at e v o.x) (first_at e v o.y) o w n
 
-  still-awake : awake e.most q (e.stack v) ≡ awake e.most r (e.stack v)
-  still-awake = same_awake e.most r q (e.stack v) (e.stack v) same_kind refl
+  still_awake : awake e.most q (e.stack v) ≡ awake e.most r (e.stack v)
+  still_awake = same_awake e.most r q (e.stack v) (e.stack v) same_kind refl
 
   pub obeyed_over : Over e v q
-  obeyed_over = over e v lawful q (still-awake ∙ sym s.knows ∙ h) fit
+  obeyed_over = over e v lawful q (still_awake ∙ sym s.knows ∙ h) fit
 
-  text-then : text_of e.most (q ∷ e.stack v) (e.doc v) ≡ shown q (textAt e v)
-  text-then = text_awake e.most q (e.stack v) (e.doc v) (still-awake ∙ sym s.knows ∙ h)
+  text_then : text_of e.most (q ∷ e.stack v) (e.doc v) ≡ shown q (textAt e v)
+  text_then = text_awake e.most q (e.stack v) (e.doc v) (still_awake ∙ sym s.knows ∙ h)
 
   pub obeyed_sound : (len' : ℕ) → len' ≡ length (shown q (textAt e v)) → Sound e v q len' top up
   obeyed_sound len' sized =
       record {
         below = s.below;
-        knows = s.knows ∙ sym still-awake;
-        sized = sized ∙ ap length (sym text-then);
+        knows = s.knows ∙ sym still_awake;
+        sized = sized ∙ ap length (sym text_then);
         topped = s.topped ∙ sym (same_ceiling e.most r q (e.stack v) (e.stack v) same_kind refl);
         fits = when_made up _ _ (λ _. fit) (λ _. tt);
       }
@@ -54,8 +54,8 @@ module _ {V S : Type 0} (e : Eyes V S) (v : V) (lawful : Lawful e v) (r : Record
       → Kept (text_of e.most (r ∷ e.stack v) (e.doc v)) (text_of e.most (q ∷ e.stack v) (e.doc v)) own
   obeyed_text own change =
       let before = text_awake e.most r (e.stack v) (e.doc v) (sym s.knows ∙ h) in
-      let kept = obeyed_kept r (textAt e v) (length (e.doc v)) (first_at e v o.x) (first_at e v o.y) o w (when_true _ _ h s.fits) taken (place-le o.x) (place-le o.y) in
+      let kept = obeyed_kept r (textAt e v) (length (e.doc v)) (first_at e v o.x) (first_at e v o.y) o w (when_true _ _ h s.fits) taken (place_le o.x) (place_le o.y) in
       let P : List ℕ → Type 0 = λ z. Kept z (text_of e.most (q ∷ e.stack v) (e.doc v)) own in
       let Q : List ℕ → Type 0 = λ z. Kept (shown r (textAt e v)) z own in
       let R : Change → Type 0 = λ z. Kept (shown r (textAt e v)) (shown (obeyed r (first_at e v o.x) (first_at e v o.y) o w) (textAt e v)) z in
-      subst P (sym before) (subst Q (sym (text-then ∙ ap (λ (z : Records). shown z (textAt e v)) is)) (subst R (sym change) kept))
+      subst P (sym before) (subst Q (sym (text_then ∙ ap (λ (z : Records). shown z (textAt e v)) is)) (subst R (sym change) kept))

@@ -160,16 +160,16 @@ module _ (most : ℕ) (r : Records) (rs : List Records) (d : List ℕ) (o : Orde
   pub refused_asleep : has_verb r o.verb ≡ true → awake most r rs ≡ false → order_refusal_of most (r ∷ rs) d zero o w ≡ Some (view_refusal (record { cause = Asleep; layer = 0 }))
   refused_asleep h down = order_here most r rs d o w ∙ ap (option_map (at_layer 0)) (cond-true (has_verb r o.verb) _ _ h ∙ cond-false (awake most r rs) _ _ down)
 
-  own-answer : has_verb r o.verb ≡ true → awake most r rs ≡ true
+  own_answer : has_verb r o.verb ≡ true → awake most r rs ≡ true
       → meant_refusal most (r ∷ rs) d zero o w ≡ own_refusal r (length d) (first_place most rs d o.x) (first_place most rs d o.y) o w
-  own-answer h up = cond-true (has_verb r o.verb) _ _ h ∙ cond-true (awake most r rs) _ _ up
+  own_answer h up = cond-true (has_verb r o.verb) _ _ h ∙ cond-true (awake most r rs) _ _ up
 
   pub refused_own : has_verb r o.verb ≡ true → awake most r rs ≡ true → (f : Cause)
       → own_refusal r (length d) (first_place most rs d o.x) (first_place most rs d o.y) o w ≡ Some (cause_refusal f)
       → order_refusal_of most (r ∷ rs) d zero o w ≡ Some (view_refusal (record { cause = f; layer = 0 }))
-  refused_own h up f e = order_here most r rs d o w ∙ ap (option_map (at_layer 0)) (own-answer h up ∙ e)
+  refused_own h up f e = order_here most r rs d o w ∙ ap (option_map (at_layer 0)) (own_answer h up ∙ e)
 
   pub taken_own : has_verb r o.verb ≡ true → awake most r rs ≡ true
       → own_refusal r (length d) (first_place most rs d o.x) (first_place most rs d o.y) o w ≡ None
       → order_refusal_of most (r ∷ rs) d zero o w ≡ None
-  taken_own h up e = order_here most r rs d o w ∙ ap (option_map (at_layer 0)) (own-answer h up ∙ e)
+  taken_own h up e = order_here most r rs d o w ∙ ap (option_map (at_layer 0)) (own_answer h up ∙ e)

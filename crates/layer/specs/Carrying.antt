@@ -6,11 +6,11 @@ use Rattle.std.proofs.lemmas.Bool.{cond-true, cond-false, cases_Bool}
 use Rattle.places.specs.declared.change.Change.{Change}
 use Rattle.places.specs.Changes.{Kept}
 use Rattle.places.proofs.Keeping.{keeps_length}
-use Rattle.view.specs.Layers.{Records, shown, growth, Fit, follow, raised}
+use Rattle.view.specs.Layers.{Records, marks, tabs, wrap, shown, growth, Fit, follow, raised}
 use Rattle.view.specs.Stacks.{ceiling_of, awake, text_of, AllFit, Means, Changed, carried}
 use Rattle.view.specs.declared.view.View.{Ghosts as Eyes}
 use Rattle.view.specs.Seen.{textAt}
-use Rattle.view.specs.Kinds.{Over, Behind, Raises}
+use Rattle.view.specs.Kinds.{Countable, Over, Behind, Raises}
 use Rattle.layer.specs.Sound.{Sound}
 use Rattle.layer.specs.Fitting.{follow_fit, follow_kept, follow_growth, growth_rises, grown_length}
 use Rattle.layer.specs.Stacking.{stack_means, text_awake, text_asleep, text_le, ceiling_le, same_awake, same_ceiling}
@@ -32,6 +32,16 @@ pub when_made : (b : Bool) (P Q : Type 0) → (b ≡ true → P) → (b ≡ fals
 when_made true P Q p q = p refl
 when_made false P Q p q = q refl
 
+grown_countable : (r : Records) (n : ℕ) → growth r n ≤ 1073741824 → Countable r n
+grown_countable (marks k ms) n h = tt
+grown_countable (tabs w) n h = h
+grown_countable (wrap w) n h = h
+
+still_countable : (r : Records) (c : Change) (n : ℕ) → Countable (follow r c) n → Countable r n
+still_countable (marks k ms) c n h = tt
+still_countable (tabs w) c n h = h
+still_countable (wrap w) c n h = h
+
 module _ {V S : Type 0} (e : Eyes V S) (v : V) (lawful : Lawful e v) where
   pub text_small : length (textAt e v) ≤ 1073741824
   text_small =
@@ -45,7 +55,7 @@ module _ {V S : Type 0} (e : Eyes V S) (v : V) (lawful : Lawful e v) where
       let t = text_le e.most (e.stack v) (e.doc v) lawful.fits (omega (arith, lawful.small.0)) in
       let g = grown_length r (textAt e v) (ceiling_of e.most (e.stack v)) fit t in
       let h : growth r (ceiling_of e.most (e.stack v)) ≤ 1073741824 = grind (arith, nat_tests) in
-      record { sound = lawful.sound; fit = fit; low = text_small; high = omega arith; room = omega (arith, growth_rises r _ _ t) }
+      record { sound = lawful.sound; fit = fit; low = text_small; high = omega arith; room = grown_countable r _ (omega (arith, growth_rises r _ _ t)) }
 
   -- the records of a sound layer over it fit with those below
   pub sound_fits : (r : Records) (len top : ℕ) (up : Bool) → Sound e v r len top up → AllFit e.most (r ∷ e.stack v) (e.doc v)
@@ -64,34 +74,34 @@ module _ {V S : Type 0} (e : Eyes V S) (v : V) (lawful : Lawful e v) where
 -- the view below went from v to v' by the change c, which a sound layer with the records r follows
 module _ {V S : Type 0} (e : Eyes V S) (v v' : V) (lawful : Lawful e v) (lawful' : Lawful e v') (r : Records) (len top : ℕ) (up : Bool)
     (s : Sound e v r len top up) (c : Change) (kept : Kept (textAt e v) (textAt e v') c) (low : ceiling_of e.most (e.stack v') ≡ ceiling_of e.most (e.stack v)) where
-  before-is : length (textAt e v') + c.old - c.new ≡ length (textAt e v)
-  before-is = let h = keeps_length (textAt e v) (textAt e v') c.start c.old c.new kept in omega arith
+  before_is : length (textAt e v') + c.old - c.new ≡ length (textAt e v)
+  before_is = let h = keeps_length (textAt e v) (textAt e v') c.start c.old c.new kept in omega arith
 
-  follow-awake : up ≡ true → awake e.most (follow r c) (e.stack v') ≡ true
-  follow-awake h = same_awake e.most r (follow r c) (e.stack v) (e.stack v') (follow_growth r c) low ∙ sym s.knows ∙ h
+  follow_awake : up ≡ true → awake e.most (follow r c) (e.stack v') ≡ true
+  follow_awake h = same_awake e.most r (follow r c) (e.stack v) (e.stack v') (follow_growth r c) low ∙ sym s.knows ∙ h
 
-  carry-fit : up ≡ true → Fit (follow r c) (length (textAt e v'))
-  carry-fit h = follow_fit r (textAt e v) (textAt e v') c (when_true _ _ h s.fits) kept
+  carry_fit : up ≡ true → Fit (follow r c) (length (textAt e v'))
+  carry_fit h = follow_fit r (textAt e v) (textAt e v') c (when_true _ _ h s.fits) kept
 
-  carry-behind : up ≡ true → Behind e v' r c
-  carry-behind h =
+  carry_behind : up ≡ true → Behind e v' r c
+  carry_behind h =
       let P : ℕ → Type 0 = λ n. Fit r n in
-      let b = before-is in
+      let b = before_is in
       record {
         sound = lawful'.sound;
         new_fits = kept.new_fits;
         old_fits = omega (arith, kept.old_fits);
-        fit = subst P (sym before-is) (when_true _ _ h s.fits);
+        fit = subst P (sym before_is) (when_true _ _ h s.fits);
         low = text_small e v' lawful';
         was = omega (arith, text_small e v lawful);
-        room = omega (arith, (over e v' lawful' (follow r c) (follow-awake h) (carry-fit h)).room, follow_growth r c (length (textAt e v')));
+        room = still_countable r c _ (over e v' lawful' (follow r c) (follow_awake h) (carry_fit h)).room;
       }
 
   pub behind_when : MatchBool up (Behind e v' r c) (Unit {0})
-  behind_when = when_made up _ _ carry-behind (λ _. tt)
+  behind_when = when_made up _ _ carry_behind (λ _. tt)
 
   pub over_when : MatchBool up (Over e v' (follow r c)) (Unit {0})
-  over_when = when_made up _ _ (λ h. over e v' lawful' (follow r c) (follow-awake h) (carry-fit h)) (λ _. tt)
+  over_when = when_made up _ _ (λ h. over e v' lawful' (follow r c) (follow_awake h) (carry_fit h)) (λ _. tt)
 
   -- what the layer then keeps, and the change that it answers
   module _ (q : Records) (len' : ℕ) (own : Change)
@@ -102,8 +112,8 @@ module _ {V S : Type 0} (e : Eyes V S) (v v' : V) (lawful : Lawful e v) (lawful'
     slept : up ≡ false → (q ≡ r) × (len' ≡ length (textAt e v')) × (own ≡ c)
     slept h = when_false _ _ h does
 
-    asleep-then : up ≡ false → awake e.most r (e.stack v') ≡ false
-    asleep-then h = same_awake e.most r r (e.stack v) (e.stack v') (λ _. refl) low ∙ sym s.knows ∙ h
+    asleep_then : up ≡ false → awake e.most r (e.stack v') ≡ false
+    asleep_then h = same_awake e.most r r (e.stack v) (e.stack v') (λ _. refl) low ∙ sym s.knows ∙ h
 
     pub carried_records : q ≡ cond (awake e.most r (e.stack v)) (follow r c) r
     carried_records =
@@ -112,31 +122,31 @@ module _ {V S : Type 0} (e : Eyes V S) (v v' : V) (lawful : Lawful e v) (lawful'
         (λ h. (slept h).0 ∙ sym (cond-false (awake e.most r (e.stack v)) _ _ (sym s.knows ∙ h)))
         (cases_Bool up)
 
-    len-then : up ≡ true → len ≡ length (shown r (textAt e v))
-    len-then h = s.sized ∙ ap length (text_awake e.most r (e.stack v) (e.doc v) (sym s.knows ∙ h))
+    len_then : up ≡ true → len ≡ length (shown r (textAt e v))
+    len_then h = s.sized ∙ ap length (text_awake e.most r (e.stack v) (e.doc v) (sym s.knows ∙ h))
 
-    own-awake : up ≡ true → own ≡ raised r (textAt e v) (textAt e v') c
-    own-awake h = (did h).2 (textAt e v) (when_true _ _ h s.fits) kept (len-then h)
+    own_awake : up ≡ true → own ≡ raised r (textAt e v) (textAt e v') c
+    own_awake h = (did h).2 (textAt e v) (when_true _ _ h s.fits) kept (len_then h)
 
     pub carried_change : own ≡ cond (awake e.most r (e.stack v)) (raised r (textAt e v) (textAt e v') c) c
     carried_change =
         ⊎_elim
-        (λ h. own-awake h ∙ sym (cond-true (awake e.most r (e.stack v)) _ _ (sym s.knows ∙ h)))
+        (λ h. own_awake h ∙ sym (cond-true (awake e.most r (e.stack v)) _ _ (sym s.knows ∙ h)))
         (λ h. (slept h).2 ∙ sym (cond-false (awake e.most r (e.stack v)) _ _ (sym s.knows ∙ h)))
         (cases_Bool up)
 
-    text-then-awake : up ≡ true → text_of e.most (q ∷ e.stack v') (e.doc v') ≡ shown (follow r c) (textAt e v')
-    text-then-awake h =
+    text_then_awake : up ≡ true → text_of e.most (q ∷ e.stack v') (e.doc v') ≡ shown (follow r c) (textAt e v')
+    text_then_awake h =
         ap (λ (z : Records). text_of e.most (z ∷ e.stack v') (e.doc v')) (did h).0
-        ∙ text_awake e.most (follow r c) (e.stack v') (e.doc v') (follow-awake h)
+        ∙ text_awake e.most (follow r c) (e.stack v') (e.doc v') (follow_awake h)
 
-    text-then-asleep : up ≡ false → text_of e.most (q ∷ e.stack v') (e.doc v') ≡ textAt e v'
-    text-then-asleep h =
+    text_then_asleep : up ≡ false → text_of e.most (q ∷ e.stack v') (e.doc v') ≡ textAt e v'
+    text_then_asleep h =
         ap (λ (z : Records). text_of e.most (z ∷ e.stack v') (e.doc v')) (slept h).0
-        ∙ text_asleep e.most r (e.stack v') (e.doc v') (asleep-then h)
+        ∙ text_asleep e.most r (e.stack v') (e.doc v') (asleep_then h)
 
-    moved-kept : (t t' x x' : List ℕ) (a b : Change) → t ≡ x → t' ≡ x' → a ≡ b → Kept x x' b → Kept t t' a
-    moved-kept t t' x x' a b p p' i k =
+    moved_kept : (t t' x x' : List ℕ) (a b : Change) → t ≡ x → t' ≡ x' → a ≡ b → Kept x x' b → Kept t t' a
+    moved_kept t t' x x' a b p p' i k =
         let P : List ℕ → Type 0 = λ z. Kept z t' a in
         let Q : List ℕ → Type 0 = λ z. Kept x z a in
         let R : Change → Type 0 = λ z. Kept x x' z in
@@ -145,9 +155,9 @@ module _ {V S : Type 0} (e : Eyes V S) (v v' : V) (lawful : Lawful e v) (lawful'
     pub carried_kept : Kept (text_of e.most (r ∷ e.stack v) (e.doc v)) (text_of e.most (q ∷ e.stack v') (e.doc v')) own
     carried_kept =
         ⊎_elim
-        (λ h. moved-kept _ _ _ _ _ _ (text_awake e.most r (e.stack v) (e.doc v) (sym s.knows ∙ h)) (text-then-awake h) (own-awake h)
+        (λ h. moved_kept _ _ _ _ _ _ (text_awake e.most r (e.stack v) (e.doc v) (sym s.knows ∙ h)) (text_then_awake h) (own_awake h)
         (follow_kept r (textAt e v) (textAt e v') c (when_true _ _ h s.fits) kept))
-        (λ h. moved-kept _ _ _ _ _ _ (text_asleep e.most r (e.stack v) (e.doc v) (sym s.knows ∙ h)) (text-then-asleep h) (slept h).2 kept)
+        (λ h. moved_kept _ _ _ _ _ _ (text_asleep e.most r (e.stack v) (e.doc v) (sym s.knows ∙ h)) (text_then_asleep h) (slept h).2 kept)
         (cases_Bool up)
 
     same_kind : (n : ℕ) → growth q n ≡ growth r n
@@ -165,17 +175,17 @@ module _ {V S : Type 0} (e : Eyes V S) (v v' : V) (lawful : Lawful e v) (lawful'
           knows = s.knows ∙ sym (same_awake e.most r q (e.stack v) (e.stack v') same_kind low);
           sized =
               ⊎_elim
-              (λ h. (did h).1 ∙ ap length (sym (text-then-awake h)))
-              (λ h. (slept h).1 ∙ ap length (sym (text-then-asleep h)))
+              (λ h. (did h).1 ∙ ap length (sym (text_then_awake h)))
+              (λ h. (slept h).1 ∙ ap length (sym (text_then_asleep h)))
               (cases_Bool up);
           topped = s.topped ∙ sym (same_ceiling e.most r q (e.stack v) (e.stack v') same_kind low);
-          fits = when_made up _ _ (λ h. subst P (sym (did h).0) (carry-fit h)) (λ _. tt);
+          fits = when_made up _ _ (λ h. subst P (sym (did h).0) (carry_fit h)) (λ _. tt);
         }
 
     -- the same of the layer as it was left, over the view b that is v', where the stack below went as `lower` says
-    same-records : (lower : Changed) → c ≡ lower.change → e.stack v' ≡ lower.stack
+    same_records : (lower : Changed) → c ≡ lower.change → e.stack v' ≡ lower.stack
         → q ∷ e.stack v' ≡ (carried e.most r (e.stack v) (e.doc v) (e.doc v') lower).stack
-    same-records lower p i =
+    same_records lower p i =
         ap (λ (z : Records). z ∷ e.stack v') (carried_records ∙ ap (λ (z : Change). cond (awake e.most r (e.stack v)) (follow r z) r) p)
         ∙ ap (λ (z : List Records). cond (awake e.most r (e.stack v)) (follow r lower.change) r ∷ z) i
 
@@ -191,4 +201,4 @@ module _ {V S : Type 0} (e : Eyes V S) (v v' : V) (lawful : Lawful e v) (lawful'
         let P : V → Type 0 = λ k. Carried e v r k q len' top' up' lower own in
         let Q : ℕ → Type 0 = λ k. Carried e v r v' q len' k up' lower own in
         let R : Bool → Type 0 = λ k. Carried e v r v' q len' top k lower own in
-        subst P (sym x) (subst Q (sym y) (subst R (sym z) (record { sound = carried_sound; stack = same-records lower p i; change = same_change lower p i; kept = carried_kept })))
+        subst P (sym x) (subst Q (sym y) (subst R (sym z) (record { sound = carried_sound; stack = same_records lower p i; change = same_change lower p i; kept = carried_kept })))

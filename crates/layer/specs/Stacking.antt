@@ -48,17 +48,17 @@ finds_same U V F L t s n e q f =
 
 -- the layer r over a stack that is found, by its own searches after those below
 module _ (most : ℕ) (r : Records) (rs : List Records) (d : List ℕ) where
-  through-awake : awake most r rs ≡ true → Fit r (length (text_of most rs d))
+  through_awake : awake most r rs ≡ true → Fit r (length (text_of most rs d))
       → Finds (under_of most rs d) (first_place most rs d) (last_place most rs d) (length (text_of most rs d)) (length d)
       → Finds (under_of most (r ∷ rs) d) (λ p. first r (text_of most rs d) (first_place most rs d p)) (λ p. last r (text_of most rs d) (last_place most rs d p)) (length (text_of most (r ∷ rs) d)) (length d)
-  through-awake up fit below =
+  through_awake up fit below =
       finds_same _ (under_of most (r ∷ rs) d) _ _ _ _ _ (under_awake most r rs d up) (ap length (text_awake most r rs d up))
       (composed (fit_finds r (text_of most rs d) fit) below)
 
-  through-asleep : awake most r rs ≡ false
+  through_asleep : awake most r rs ≡ false
       → Finds (under_of most rs d) (first_place most rs d) (last_place most rs d) (length (text_of most rs d)) (length d)
       → Finds (under_of most (r ∷ rs) d) (first_place most rs d) (last_place most rs d) (length (text_of most (r ∷ rs) d)) (length d)
-  through-asleep down below =
+  through_asleep down below =
       finds_same _ (under_of most (r ∷ rs) d) _ _ _ _ _ (under_asleep most r rs d down) (ap length (text_asleep most r rs d down)) below
 
 -- the map of a stack rises, and first and last find by the order rules: layer over layer, by one argument
@@ -69,23 +69,23 @@ stack_finds most (r ∷ rs) d h =
     let below = stack_finds most rs d h.0 in
     searches_find (under_of most (r ∷ rs) d) (length (text_of most (r ∷ rs) d)) (length d)
     (⊎_elim
-    (λ up. (through-awake most r rs d up (when_true _ _ up h.1) below).map)
-    (λ down. (through-asleep most r rs d down below).map)
+    (λ up. (through_awake most r rs d up (when_true _ _ up h.1) below).map)
+    (λ down. (through_asleep most r rs d down below).map)
     (cases_Bool (awake most r rs)))
 
 -- first and last through the top layer
 module _ (most : ℕ) (r : Records) (rs : List Records) (d : List ℕ) (h : AllFit most (r ∷ rs) d) (p : ℕ) (l : p ≤ length d) where
   pub first_awake : awake most r rs ≡ true → first r (text_of most rs d) (first_place most rs d p) ≡ first_place most (r ∷ rs) d p
-  first_awake up = first_found (through-awake most r rs d up (when_true _ _ up h.1) (stack_finds most rs d h.0)) p l
+  first_awake up = first_found (through_awake most r rs d up (when_true _ _ up h.1) (stack_finds most rs d h.0)) p l
 
   pub last_awake : awake most r rs ≡ true → last r (text_of most rs d) (last_place most rs d p) ≡ last_place most (r ∷ rs) d p
-  last_awake up = last_found (through-awake most r rs d up (when_true _ _ up h.1) (stack_finds most rs d h.0)) p l
+  last_awake up = last_found (through_awake most r rs d up (when_true _ _ up h.1) (stack_finds most rs d h.0)) p l
 
   pub first_asleep : awake most r rs ≡ false → first_place most rs d p ≡ first_place most (r ∷ rs) d p
-  first_asleep down = first_found (through-asleep most r rs d down (stack_finds most rs d h.0)) p l
+  first_asleep down = first_found (through_asleep most r rs d down (stack_finds most rs d h.0)) p l
 
   pub last_asleep : awake most r rs ≡ false → last_place most rs d p ≡ last_place most (r ∷ rs) d p
-  last_asleep down = last_found (through-asleep most r rs d down (stack_finds most rs d h.0)) p l
+  last_asleep down = last_found (through_asleep most r rs d down (stack_finds most rs d h.0)) p l
 
 -- no ceiling passes the highest, and no text its ceiling
 pub ceiling_le : (most : ℕ) (rs : List Records) → most ≤ 1073741824 → ceiling_of most rs ≤ 1073741824

@@ -36,7 +36,7 @@ first_in p ms n h e =
 pub gone_change_lem : (p : Mark → Bool) (ms : List Mark) (m : Mark) (place at start shown end : ℕ) → some p ms ≡ true → m ≡ first_mark p ms → place ≡ m.at → at ≡ m.at → shown ≡ length m.shows → end ≡ past m
     → ((xs : List ℕ) → place ≤ length xs → Counted ms xs → start ≡ first_over ms xs place)
     → (xs : List ℕ) → 0 ≤ length xs → Counted ms xs → record { start = start; old = shown; new = end - at } ≡ gone_change ms (first_mark p ms) xs
-gone_change_lem p ms m place at start shown end e is place_is at-is shown-is end_is found xs _ ok =
+gone_change_lem p ms m place at start shown end e is place_is at_is shown-is end_is found xs _ ok =
     let here : place ≡ (first_mark p ms).at = place_is ∙ ap (λ (z : Mark). z.at) is in
     let inside = first_in p ms (length xs) ok.0 e in
     same_change _ _ _ _ _ _
@@ -66,18 +66,18 @@ module _ {K : Type 0} (m : MarkKind) (ms ms' : List Mark) (k k' : K) (xs : List 
   removes less inside ok (Err f) h = (cond-false (adds m o.verb) _ _ less ∙ cond-false (ltb n o.x) _ _ (le-ltb n o.x inside) ∙ h.0, h.1)
 
   -- with the verb that adds
-  added-at : (s : ℕ) → s ≡ add_start m ms xs (new_mark m a b w).at → s ≡ add_start m ms xs a
-  added-at s e = e ∙ ap (add_start m ms xs) (at-is m)
+  added_at : (s : ℕ) → s ≡ add_start m ms xs (new_mark m a b w).at → s ≡ add_start m ms xs a
+  added_at s e = e ∙ ap (add_start m ms xs) (at_is m)
     where
-      at-is : (q : MarkKind) → (new_mark q a b w).at ≡ a
-      at-is hint = refl
-      at-is fold = refl
+      at_is : (q : MarkKind) → (new_mark q a b w).at ≡ a
+      at_is hint = refl
+      at_is fold = refl
 
   pub adding : (causes : List (Bool × Refusal)) → adds m o.verb ≡ true → first_cause (add_causes m ms n a b o w) ≡ first_cause causes → a ≤ length xs → Counted ms xs
       → (x : Result Change Cause) → Adds m ms causes ms' k k' a b w x → Carries (marks m ms) (marks m ms') k k' xs n a b o w x
   adding causes more same le ok (Ok c) h = (
     cond-true (adds m o.verb) _ _ more ∙ same ∙ h.0,
     ap (marks m) (h.1 ∙ sym (cond-true (adds m o.verb) _ _ more)),
-    h.2 xs le ok ∙ same_change _ _ _ _ _ _ (added-at _ refl ∙ sym (cond-true (adds m o.verb) _ _ more)) (sym (cond-true (adds m o.verb) _ _ more)) (sym (cond-true (adds m o.verb) _ _ more)),
+    h.2 xs le ok ∙ same_change _ _ _ _ _ _ (added_at _ refl ∙ sym (cond-true (adds m o.verb) _ _ more)) (sym (cond-true (adds m o.verb) _ _ more)) (sym (cond-true (adds m o.verb) _ _ more)),
   )
   adding causes more same le ok (Err f) h = (cond-true (adds m o.verb) _ _ more ∙ same ∙ h.0, h.1)

@@ -24,8 +24,8 @@ pub reached_all : (s o : ℕ) (ms : List Mark) (low high : ℕ) → Reached s o 
 reached_all s o ms low high h = (omega (arith, h.low_le, h.lows), omega (arith, h.high_ge, h.highs))
 
 module _ (s o : ℕ) (ms rest : List Mark) (m : Mark) (low high : ℕ) (h : Reached s o ms (m ∷ rest) low high) where
-  reached-gone : dropped s o m ≡ true → Reached s o ms rest (min low m.at) (max high (past m))
-  reached-gone e =
+  reached_gone : dropped s o m ≡ true → Reached s o ms rest (min low m.at) (max high (past m))
+  reached_gone e =
       let l = cond-true (dropped s o m) (min m.at (lowest s o rest)) (lowest s o rest) e in
       let u = cond-true (dropped s o m) (max (past m) (highest s o rest)) (highest s o rest) e in
       record {
@@ -35,8 +35,8 @@ module _ (s o : ℕ) (ms rest : List Mark) (m : Mark) (low high : ℕ) (h : Reac
         highs = omega (arith, h.highs);
       }
 
-  reached-kept : dropped s o m ≡ false → Reached s o ms rest low high
-  reached-kept e =
+  reached_kept : dropped s o m ≡ false → Reached s o ms rest low high
+  reached_kept e =
       let l = cond-false (dropped s o m) (min m.at (lowest s o rest)) (lowest s o rest) e in
       let u = cond-false (dropped s o m) (max (past m) (highest s o rest)) (highest s o rest) e in
       record {
@@ -56,7 +56,7 @@ module _ {R : Type 0} (mark : R → Mark) (s o : ℕ) (ms : List Mark) (records 
 
   pub next_gone : (low' high' : ℕ) → dropped s o (mark x) ≡ true → low' ≡ min low (mark x).at → high' ≡ max high (past (mark x)) → Reached s o ms (map mark (drop (i + 1) records)) low' high'
   next_gone low' high' e el eh =
-      let done = reached-gone s o ms (map mark (drop (i + 1) records)) (mark x) low high ahead e in
+      let done = reached_gone s o ms (map mark (drop (i + 1) records)) (mark x) low high ahead e in
       record {
         low_le = omega (arith, done.low_le);
         high_ge = omega (arith, done.high_ge);
@@ -66,7 +66,7 @@ module _ {R : Type 0} (mark : R → Mark) (s o : ℕ) (ms : List Mark) (records 
 
   pub next_kept : (low' high' : ℕ) → dropped s o (mark x) ≡ false → low' ≡ low → high' ≡ high → Reached s o ms (map mark (drop (i + 1) records)) low' high'
   next_kept low' high' e el eh =
-      let done = reached-kept s o ms (map mark (drop (i + 1) records)) (mark x) low high ahead e in
+      let done = reached_kept s o ms (map mark (drop (i + 1) records)) (mark x) low high ahead e in
       record {
         low_le = omega (arith, done.low_le);
         high_ge = omega (arith, done.high_ge);

@@ -33,9 +33,9 @@ module _ (x : Mark) (xs ys : List Mark) (n : ℕ) where
   take_step true e = ap (λ z. x ∷ z) e ∙ ap (λ (k : ℕ). take k (x ∷ xs)) (sym (one_more n))
   take_step false e = refl
 
-  drop-step : (b : Bool) → ys ≡ drop n xs → cond b ys (x ∷ xs) ≡ drop (cond b (1 + n) 0) (x ∷ xs)
-  drop-step true e = e ∙ ap (λ (k : ℕ). drop k (x ∷ xs)) (sym (one_more n))
-  drop-step false e = refl
+  drop_step : (b : Bool) → ys ≡ drop n xs → cond b ys (x ∷ xs) ≡ drop (cond b (1 + n) 0) (x ∷ xs)
+  drop_step true e = e ∙ ap (λ (k : ℕ). drop k (x ∷ xs)) (sym (one_more n))
+  drop_step false e = refl
 
 ended-take : (s : ℕ) (ms : List Mark) → ended s ms ≡ take (prefix_len (λ m. leb (past m) s) ms) ms
 ended-take s [] = refl
@@ -43,7 +43,7 @@ ended-take s (m ∷ ms) = take_step m ms (ended s ms) (prefix_len (λ x. leb (pa
 
 unended-drop : (s : ℕ) (ms : List Mark) → unended s ms ≡ drop (prefix_len (λ m. leb (past m) s) ms) ms
 unended-drop s [] = refl
-unended-drop s (m ∷ ms) = drop-step m ms (unended s ms) (prefix_len (λ x. leb (past x) s) ms) (leb (past m) s) (unended-drop s ms)
+unended-drop s (m ∷ ms) = drop_step m ms (unended s ms) (prefix_len (λ x. leb (past x) s) ms) (leb (past m) s) (unended-drop s ms)
 
 put_is : (m : Mark) (ms : List Mark) → put m ms ≡ inserted_at (prefix_len (λ x. leb (past x) m.at) ms) m ms
 put_is m ms =
@@ -52,34 +52,34 @@ put_is m ms =
 
 -- the first mark that passes is the one behind all those that fail from the front on
 module _ (x : Mark) (xs : List Mark) (n : ℕ) where
-  found-step : (b : Bool) (d f : Mark) → (n < length xs → get_or xs n d ≡ f) → cond (not b) (1 + n) 0 < length (x ∷ xs) → get_or (x ∷ xs) (cond (not b) (1 + n) 0) d ≡ cond b x f
-  found-step true d f e h = refl
-  found-step false d f e h = ap (λ (k : ℕ). get_or (x ∷ xs) k d) (one_more n) ∙ e (omega arith)
+  found_step : (b : Bool) (d f : Mark) → (n < length xs → get_or xs n d ≡ f) → cond (not b) (1 + n) 0 < length (x ∷ xs) → get_or (x ∷ xs) (cond (not b) (1 + n) 0) d ≡ cond b x f
+  found_step true d f e h = refl
+  found_step false d f e h = ap (λ (k : ℕ). get_or (x ∷ xs) k d) (one_more n) ∙ e (omega arith)
 
-  without-step : (b : Bool) (ys : List Mark) → (n < length xs → ys ≡ removed_at n xs) → cond (not b) (1 + n) 0 < length (x ∷ xs) → cond b xs (x ∷ ys) ≡ removed_at (cond (not b) (1 + n) 0) (x ∷ xs)
-  without-step true ys e h = refl
-  without-step false ys e h =
+  without_step : (b : Bool) (ys : List Mark) → (n < length xs → ys ≡ removed_at n xs) → cond (not b) (1 + n) 0 < length (x ∷ xs) → cond b xs (x ∷ ys) ≡ removed_at (cond (not b) (1 + n) 0) (x ∷ xs)
+  without_step true ys e h = refl
+  without_step false ys e h =
       ap (λ z. x ∷ z) (e (omega arith))
       ∙ ap (λ (k : ℕ). take (suc n) (x ∷ xs) ++ drop k (x ∷ xs)) (behind n)
       ∙ ap (λ (k : ℕ). removed_at k (x ∷ xs)) (sym (one_more n))
 
 found_is : (p : Mark → Bool) (ms : List Mark) (d : Mark) → prefix_len (λ m. not (p m)) ms < length ms → get_or ms (prefix_len (λ m. not (p m)) ms) d ≡ first_mark p ms
 found_is p [] d h = absurd (omega arith)
-found_is p (m ∷ ms) d h = found-step m ms (prefix_len (λ x. not (p x)) ms) (p m) d (first_mark p ms) (found_is p ms d) h
+found_is p (m ∷ ms) d h = found_step m ms (prefix_len (λ x. not (p x)) ms) (p m) d (first_mark p ms) (found_is p ms d) h
 
 without_is : (p : Mark → Bool) (ms : List Mark) → prefix_len (λ m. not (p m)) ms < length ms → without p ms ≡ removed_at (prefix_len (λ m. not (p m)) ms) ms
 without_is p [] h = absurd (omega arith)
-without_is p (m ∷ ms) h = without-step m ms (prefix_len (λ x. not (p x)) ms) (p m) (without p ms) (without_is p ms) h
+without_is p (m ∷ ms) h = without_step m ms (prefix_len (λ x. not (p x)) ms) (p m) (without p ms) (without_is p ms) h
 
 -- a table with room, whose records were xs and now are ys, has the record x put in behind those that end by its place
 pub put_made : {R T : Type 0} (mark : R → Mark) (xs ys : List R) (x : R) (place k : ℕ) (r : Bool) (t t' : T) → length xs < 64 → place ≡ (mark x).at → k ≡ prefix_len (λ m. leb (past m) place) (map mark xs)
     → r ≡ (ltb (length xs) 64 && leb k (length xs)) → ys ≡ cond r (inserted_at k x xs) xs → Puts (mark x) (map mark xs) (map mark ys) t t' r
-put_made mark xs ys x place k r t t' room at-is k-is made now-is =
+put_made mark xs ys x place k r t t' room at_is k_is made now-is =
     let few = prefix_len-le-length (λ m. leb (past m) place) (map mark xs) in
     let long = length-map xs mark in
     let yes : r ≡ true = grind (arith, nat_tests) in
     let none : full (map mark xs) ≡ false = grind (arith, nat_tests) in
-    let index : k ≡ prefix_len (λ m. leb (past m) (mark x).at) (map mark xs) = k-is ∙ ap (λ (p : ℕ). prefix_len (λ m. leb (past m) p) (map mark xs)) at-is in
+    let index : k ≡ prefix_len (λ m. leb (past m) (mark x).at) (map mark xs) = k_is ∙ ap (λ (p : ℕ). prefix_len (λ m. leb (past m) p) (map mark xs)) at_is in
     let next : map mark ys ≡ put (mark x) (map mark xs) =
     ap (map mark) (now-is ∙ ap (λ (b : Bool). cond b (inserted_at k x xs) xs) yes)
     ∙ map-inserted mark k x xs
@@ -89,23 +89,23 @@ put_made mark xs ys x place k r t t' room at-is k-is made now-is =
 
 -- some mark passes where the index of the first that does is one of a record
 pub some_is : {R : Type 0} (p : Mark → Bool) (mark : R → Mark) (xs : List R) (k n : ℕ) → k ≡ prefix_len (λ m. not (p m)) (map mark xs) → n ≡ length xs → ltb k n ≡ some p (map mark xs)
-some_is p mark xs k n k-is n-is = ap (λ (i : ℕ). ltb i n) k-is ∙ ap (ltb (prefix_len (λ m. not (p m)) (map mark xs))) (n-is ∙ sym (length-map xs mark))
+some_is p mark xs k n k_is n-is = ap (λ (i : ℕ). ltb i n) k_is ∙ ap (ltb (prefix_len (λ m. not (p m)) (map mark xs))) (n-is ∙ sym (length-map xs mark))
 
 -- the record at k, which is the first that passes, is taken out
 pub taken_out : {R : Type 0} (p : Mark → Bool) (mark : R → Mark) (xs ys : List R) (found : R) (k : ℕ) (r : Bool) → k ≡ prefix_len (λ m. not (p m)) (map mark xs) → k < length xs → found ≡ get_or xs k found
     → r ≡ ltb k (length xs) → ys ≡ cond r (removed_at k xs) xs
     → (some p (map mark xs) ≡ true) × (mark found ≡ first_mark p (map mark xs)) × (map mark ys ≡ without p (map mark xs))
-taken_out p mark xs ys found k r k-is inside read made now-is =
+taken_out p mark xs ys found k r k_is inside read made now-is =
     let long = length-map xs mark in
     let within : prefix_len (λ m. not (p m)) (map mark xs) < length (map mark xs) = omega arith in
     let yes : r ≡ true = grind (arith, nat_tests) in (
       grind (arith, nat_tests),
       ap mark read
           ∙ sym (get_or-map mark xs k found (mark found) inside)
-          ∙ ap (λ (i : ℕ). get_or (map mark xs) i (mark found)) k-is
+          ∙ ap (λ (i : ℕ). get_or (map mark xs) i (mark found)) k_is
           ∙ found_is p (map mark xs) (mark found) within,
       ap (map mark) (now-is ∙ ap (λ (b : Bool). cond b (removed_at k xs) xs) yes)
           ∙ map-removed mark k xs
-          ∙ ap (λ (i : ℕ). removed_at i (map mark xs)) k-is
+          ∙ ap (λ (i : ℕ). removed_at i (map mark xs)) k_is
           ∙ sym (without_is p (map mark xs) within),
     )

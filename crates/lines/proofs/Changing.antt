@@ -28,13 +28,13 @@ shown_keeps : (ps qs : List Piece) (i a b f e d : ℕ) → Keeps ps qs i a b
     → Keeps (shown_text ps) (shown_text qs) f (e - f) (d - f)
 shown_keeps ps qs i a b f e d k hf he hd =
     let same : f ≡ length (shown_text (take i qs)) = hf ∙ ap (λ z. length (shown_text z)) (sym k.front) in
-    let old-end : f + (e - f) ≡ e = omega (arith, shown_add ps i a) in
-    let new-end : f + (d - f) ≡ d = omega (arith, shown_add qs i b) in
+    let old_end : f + (e - f) ≡ e = omega (arith, shown_add ps i a) in
+    let new_end : f + (d - f) ≡ d = omega (arith, shown_add qs i b) in
     record {
       front = shown_front qs i f same ∙ ap shown_text k.front ∙ sym (shown_front ps i f hf);
       back =
-          ap (λ z. drop z (shown_text qs)) new-end ∙ shown_back qs (i + b) d hd ∙ ap shown_text k.back
-          ∙ sym (shown_back ps (i + a) e he) ∙ ap (λ z. drop z (shown_text ps)) (sym old-end);
+          ap (λ z. drop z (shown_text qs)) new_end ∙ shown_back qs (i + b) d hd ∙ ap shown_text k.back
+          ∙ sym (shown_back ps (i + a) e he) ∙ ap (λ z. drop z (shown_text ps)) (sym old_end);
       old_fits = omega (arith, shown_rest ps (i + a));
       new_fits = omega (arith, shown_rest qs (i + b));
     }
@@ -53,59 +53,59 @@ pub record InOrder (old new f d : ℕ) : Type 0 where
 
 module _ (m : Transducer) (law : Steady m) where
   -- from the next row end on, the state does not matter
-  back-meets : (j k : ℕ) (xs : List ℕ) → drop (rest_length xs) (pieces_from m j xs) ≡ drop (rest_length xs) (pieces_from m k xs)
-  back-meets j k [] = refl
-  back-meets j k (x ∷ xs) =
-      let rest = back-meets (m.next j x xs) (m.next k x xs) xs in
+  back_meets : (j k : ℕ) (xs : List ℕ) → drop (rest_length xs) (pieces_from m j xs) ≡ drop (rest_length xs) (pieces_from m k xs)
+  back_meets j k [] = refl
+  back_meets j k (x ∷ xs) =
+      let rest = back_meets (m.next j x xs) (m.next k x xs) xs in
       let e₁ = law.plain j k x in
       let e₂ = law.anew j x xs in
       let e₃ = law.anew k x xs in
       grind (arith, nat_tests)
 
   -- up to the last row end of what stays, the rest does not matter
-  front-meets : (k : ℕ) (a x y : List ℕ) → take (behind_last is_row_end a) (pieces_from m k (a ++ x)) ≡ take (behind_last is_row_end a) (pieces_from m k (a ++ y))
-  front-meets k [] x y = refl
-  front-meets k (c ∷ a) x y =
-      let rest = front-meets (m.next k c (a ++ x)) a x y in
+  front_meets : (k : ℕ) (a x y : List ℕ) → take (behind_last is_row_end a) (pieces_from m k (a ++ x)) ≡ take (behind_last is_row_end a) (pieces_from m k (a ++ y))
+  front_meets k [] x y = refl
+  front_meets k (c ∷ a) x y =
+      let rest = front_meets (m.next k c (a ++ x)) a x y in
       let same = line_within a x y in
       let e = law.next_sees k c (a ++ x) (a ++ y) in
       grind (arith, nat_tests)
 
-  front-start : (a x y : List ℕ) → take (behind_last is_row_end a) (pieces_by m (a ++ x)) ≡ take (behind_last is_row_end a) (pieces_by m (a ++ y))
-  front-start a x y =
+  front_start : (a x y : List ℕ) → take (behind_last is_row_end a) (pieces_by m (a ++ x)) ≡ take (behind_last is_row_end a) (pieces_by m (a ++ y))
+  front_start a x y =
       ⊎_elim
       (λ some.
-      front-meets (m.start (a ++ x)) a x y
+      front_meets (m.start (a ++ x)) a x y
       ∙ ap (λ z. take (behind_last is_row_end a) (pieces_from m z (a ++ y))) (law.start_sees (a ++ x) (a ++ y) (line_within a x y some)))
       (λ none. let z : behind_last is_row_end a ≡ 0 = omega arith in simp z)
       (cases_lt 0 (behind_last is_row_end a))
 
   -- the codes from i on are gone through from some state
-  drop-pieces : (k : ℕ) (xs : List ℕ) (i : ℕ) → (j : ℕ) × (drop i (pieces_from m k xs) ≡ pieces_from m j (drop i xs))
-  drop-pieces k xs zero = (k, refl)
-  drop-pieces k [] (suc i) = (k, refl)
-  drop-pieces k (x ∷ xs) (suc i) = drop-pieces (m.next k x xs) xs i
+  drop_pieces : (k : ℕ) (xs : List ℕ) (i : ℕ) → (j : ℕ) × (drop i (pieces_from m k xs) ≡ pieces_from m j (drop i xs))
+  drop_pieces k xs zero = (k, refl)
+  drop_pieces k [] (suc i) = (k, refl)
+  drop_pieces k (x ∷ xs) (suc i) = drop_pieces (m.next k x xs) xs i
 
   -- two texts that are the same from p and from q on have the same pieces behind the line there
-  back-same : (xs ys : List ℕ) (p q : ℕ) → drop p xs ≡ drop q ys → drop (line_end xs p) (pieces_by m xs) ≡ drop (line_end ys q) (pieces_by m ys)
-  back-same xs ys p q e =
-      let a = drop-pieces (m.start xs) xs p in
-      let b = drop-pieces (m.start ys) ys q in
-      sym (drop-drop (rest_length (drop p xs)) p (pieces_by m xs)) ∙ ap (drop (rest_length (drop p xs))) a.1 ∙ back-meets a.0 b.0 (drop p xs)
+  back_same : (xs ys : List ℕ) (p q : ℕ) → drop p xs ≡ drop q ys → drop (line_end xs p) (pieces_by m xs) ≡ drop (line_end ys q) (pieces_by m ys)
+  back_same xs ys p q e =
+      let a = drop_pieces (m.start xs) xs p in
+      let b = drop_pieces (m.start ys) ys q in
+      sym (drop-drop (rest_length (drop p xs)) p (pieces_by m xs)) ∙ ap (drop (rest_length (drop p xs))) a.1 ∙ back_meets a.0 b.0 (drop p xs)
       ∙ ap (λ z. drop (rest_length z) (pieces_from m b.0 z)) e ∙ ap (drop (rest_length (drop q ys))) (sym b.1)
       ∙ drop-drop (rest_length (drop q ys)) q (pieces_by m ys)
 
   -- a change from a place i up to which the pieces are the same
   module _ (xs ys : List ℕ) (s o n : ℕ) (k : Keeps xs ys s o n) where
-    old-end : line_end xs (s + o) ≤ length xs
-    old-end = line_end_fits xs (s + o) k.old_fits
+    old_end : line_end xs (s + o) ≤ length xs
+    old_end = line_end_fits xs (s + o) k.old_fits
 
-    new-end : line_end ys (s + n) ≤ length ys
-    new-end = line_end_fits ys (s + n) k.new_fits
+    new_end : line_end ys (s + n) ≤ length ys
+    new_end = line_end_fits ys (s + n) k.new_fits
 
     -- as much is shown behind the line as before
     same_back : drop (line_end ys (s + n)) (pieces_by m ys) ≡ drop (line_end xs (s + o)) (pieces_by m xs)
-    same_back = back-same ys xs (s + n) (s + o) k.back
+    same_back = back_same ys xs (s + n) (s + o) k.back
 
     same_rest : length (text_by m xs) + reach_by m ys (line_end ys (s + n)) ≡ length (text_by m ys) + reach_by m xs (line_end xs (s + o))
     same_rest =
@@ -121,51 +121,51 @@ module _ (m : Transducer) (law : Steady m) where
     end_by_new =
         omega (
           arith,
-          first_reach m law xs (line_end xs (s + o)) old-end,
+          first_reach m law xs (line_end xs (s + o)) old_end,
           same_rest,
           reach_le m xs (line_end xs (s + o)),
           reach_le m ys (line_end ys (s + n)),
         )
 
     module _ (i : ℕ) (l : i ≤ s) (same : take i (pieces_by m ys) ≡ take i (pieces_by m xs)) where
-      pieces-keep : Keeps (pieces_by m xs) (pieces_by m ys) i (line_end xs (s + o) - i) (line_end ys (s + n) - i)
-      pieces-keep =
+      pieces_keep : Keeps (pieces_by m xs) (pieces_by m ys) i (line_end xs (s + o) - i) (line_end ys (s + n) - i)
+      pieces_keep =
           let ho : i + (line_end xs (s + o) - i) ≡ line_end xs (s + o) = omega arith in
           let hn : i + (line_end ys (s + n) - i) ≡ line_end ys (s + n) = omega arith in
           record {
             front = same;
             back = ap (λ z. drop z (pieces_by m ys)) hn ∙ same_back ∙ ap (λ z. drop z (pieces_by m xs)) (sym ho);
-            old_fits = omega (arith, old-end, length-pieces m (m.start xs) xs);
-            new_fits = omega (arith, new-end, length-pieces m (m.start ys) ys);
+            old_fits = omega (arith, old_end, length-pieces m (m.start xs) xs);
+            new_fits = omega (arith, new_end, length-pieces m (m.start ys) ys);
           }
 
-      change-from : Keeps (text_by m xs) (text_by m ys) (first_by m xs i) (first_by m xs (line_end xs (s + o)) - first_by m xs i) (first_by m ys (line_end xs (s + o) + n - o) - first_by m xs i)
-      change-from =
+      change_from : Keeps (text_by m xs) (text_by m ys) (first_by m xs i) (first_by m xs (line_end xs (s + o)) - first_by m xs i) (first_by m ys (line_end xs (s + o) + n - o) - first_by m xs i)
+      change_from =
           let e : ℕ = line_end xs (s + o) in
           let d : ℕ = line_end xs (s + o) + n - o in
           let moved : d ≡ line_end ys (s + n) = line_end_new xs ys s o n k in
-          let fits-d : d ≤ length ys = omega (arith, new-end) in
-          let fits-i : i ≤ length xs = omega (arith, k.old_fits) in
-          let sum-e : e ≡ i + (e - i) = omega arith in
-          let sum-d : d ≡ i + (line_end ys (s + n) - i) = omega arith in
-          shown_keeps (pieces_by m xs) (pieces_by m ys) i (e - i) (line_end ys (s + n) - i) (first_by m xs i) (first_by m xs e) (first_by m ys d) pieces-keep
-          (first_reach m law xs i fits-i)
-          (first_reach m law xs e old-end ∙ ap (reach_by m xs) sum-e)
-          (first_reach m law ys d fits-d ∙ ap (reach_by m ys) sum-d)
+          let fits_d : d ≤ length ys = omega (arith, new_end) in
+          let fits_i : i ≤ length xs = omega (arith, k.old_fits) in
+          let sum_e : e ≡ i + (e - i) = omega arith in
+          let sum_d : d ≡ i + (line_end ys (s + n) - i) = omega arith in
+          shown_keeps (pieces_by m xs) (pieces_by m ys) i (e - i) (line_end ys (s + n) - i) (first_by m xs i) (first_by m xs e) (first_by m ys d) pieces_keep
+          (first_reach m law xs i fits_i)
+          (first_reach m law xs e old_end ∙ ap (reach_by m xs) sum_e)
+          (first_reach m law ys d fits_d ∙ ap (reach_by m ys) sum_d)
 
-      start-from : first_by m xs i ≡ reach_by m ys i
-      start-from = first_reach m law xs i (omega (arith, k.old_fits)) ∙ ap (λ z. length (shown_text z)) (sym same)
+      start_from : first_by m xs i ≡ reach_by m ys i
+      start_from = first_reach m law xs i (omega (arith, k.old_fits)) ∙ ap (λ z. length (shown_text z)) (sym same)
 
       order_from : InOrder (length (text_by m xs)) (length (text_by m ys)) (reach_by m ys i) (reach_by m ys (line_end ys (s + n)))
       order_from =
           let rest = same_rest in
-          let new-le = reach_le m ys (line_end ys (s + n)) in
-          let old-le = reach_le m xs (line_end xs (s + o)) in
+          let new_le = reach_le m ys (line_end ys (s + n)) in
+          let old_le = reach_le m xs (line_end xs (s + o)) in
           let up = reach_rises m xs i (line_end xs (s + o)) (omega arith) in
           let begins = ap (λ z. length (shown_text z)) same in
           record {
             rises = reach_rises m ys i (line_end ys (s + n)) (omega arith);
-            within = new-le;
+            within = new_le;
             room = omega arith;
             covers = omega arith;
           }
@@ -174,15 +174,15 @@ module _ (m : Transducer) (law : Steady m) where
     same_line : take (line_start xs s) (pieces_by m ys) ≡ take (line_start xs s) (pieces_by m xs)
     same_line =
         let up_to : List ℕ → List Piece = λ z. take (line_start xs s) (pieces_by m z) in
-        ap up_to (sym (front_of xs ys s k.front)) ∙ front-start (take s xs) (drop s ys) (drop s xs) ∙ ap up_to (take-append-drop s xs)
+        ap up_to (sym (front_of xs ys s k.front)) ∙ front_start (take s xs) (drop s ys) (drop s xs) ∙ ap up_to (take-append-drop s xs)
 
     pub line_change : Keeps (text_by m xs) (text_by m ys) (first_by m xs (line_start xs s))
         (first_by m xs (line_end xs (s + o)) - first_by m xs (line_start xs s))
         (first_by m ys (line_end xs (s + o) + n - o) - first_by m xs (line_start xs s))
-    line_change = change-from (line_start xs s) (line_start_le xs s) same_line
+    line_change = change_from (line_start xs s) (line_start_le xs s) same_line
 
     pub line_start_same : first_by m xs (line_start xs s) ≡ reach_by m ys (line_start ys s)
-    line_start_same = start-from (line_start xs s) (line_start_le xs s) same_line ∙ ap (reach_by m ys) (line_start_new xs ys s o n k)
+    line_start_same = start_from (line_start xs s) (line_start_le xs s) same_line ∙ ap (reach_by m ys) (line_start_new xs ys s o n k)
 
     pub line_order : InOrder (length (text_by m xs)) (length (text_by m ys)) (reach_by m ys (line_start ys s)) (reach_by m ys (line_end ys (s + n)))
     line_order =
@@ -190,34 +190,34 @@ module _ (m : Transducer) (law : Steady m) where
         (line_start_new xs ys s o n k) (order_from (line_start xs s) (line_start_le xs s) same_line)
 
 module _ (m : Transducer) (law : Steady m) (blind : Blind m) where
-  front-blind : (k : ℕ) (a x y : List ℕ) → take (length a) (pieces_from m k (a ++ x)) ≡ take (length a) (pieces_from m k (a ++ y))
-  front-blind k [] x y = refl
-  front-blind k (c ∷ a) x y =
-      let rest = front-blind (m.next k c (a ++ x)) a x y in
+  front_blind : (k : ℕ) (a x y : List ℕ) → take (length a) (pieces_from m k (a ++ x)) ≡ take (length a) (pieces_from m k (a ++ y))
+  front_blind k [] x y = refl
+  front_blind k (c ∷ a) x y =
+      let rest = front_blind (m.next k c (a ++ x)) a x y in
       let e = blind.next_same k c (a ++ x) (a ++ y) in
       cc
 
   -- from the change itself, where nothing ahead is seen
   module _ (xs ys : List ℕ) (s o n : ℕ) (k : Keeps xs ys s o n) where
-    same-front : take s (pieces_by m ys) ≡ take s (pieces_by m xs)
-    same-front =
+    same_front : take s (pieces_by m ys) ≡ take s (pieces_by m xs)
+    same_front =
         let a : List ℕ = take s xs in
         let up_to : List ℕ → List Piece = λ z. take s (pieces_by m z) in
         let long : length a ≡ s = omega (arith, length-take s xs, k.old_fits) in
         let both : take s (pieces_by m (a ++ drop s ys)) ≡ take s (pieces_by m (a ++ drop s xs)) =
         ap (λ z. take s (pieces_from m z (a ++ drop s ys))) (blind.start_same (a ++ drop s ys) (a ++ drop s xs))
         ∙ ap (λ z. take z (pieces_from m (m.start (a ++ drop s xs)) (a ++ drop s ys))) (sym long)
-        ∙ front-blind (m.start (a ++ drop s xs)) a (drop s ys) (drop s xs)
+        ∙ front_blind (m.start (a ++ drop s xs)) a (drop s ys) (drop s xs)
         ∙ ap (λ z. take z (pieces_from m (m.start (a ++ drop s xs)) (a ++ drop s xs))) long in
         ap up_to (sym (front_of xs ys s k.front)) ∙ both ∙ ap up_to (take-append-drop s xs)
 
     pub near_change : Keeps (text_by m xs) (text_by m ys) (first_by m xs s)
         (first_by m xs (line_end xs (s + o)) - first_by m xs s)
         (first_by m ys (line_end xs (s + o) + n - o) - first_by m xs s)
-    near_change = change-from m law xs ys s o n k s (omega arith) same-front
+    near_change = change_from m law xs ys s o n k s (omega arith) same_front
 
     pub near_start : first_by m xs s ≡ reach_by m ys s
-    near_start = start-from m law xs ys s o n k s (omega arith) same-front
+    near_start = start_from m law xs ys s o n k s (omega arith) same_front
 
     pub near_order : InOrder (length (text_by m xs)) (length (text_by m ys)) (reach_by m ys s) (reach_by m ys (line_end ys (s + n)))
-    near_order = order_from m law xs ys s o n k s (omega arith) same-front
+    near_order = order_from m law xs ys s o n k s (omega arith) same_front

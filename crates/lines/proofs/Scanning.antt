@@ -51,31 +51,31 @@ module _ (m : Transducer) where
   pub text_grows : (g : ℕ) → ((k x : ℕ) → length (m.show k x) ≤ g) → (xs : List ℕ) → length (text_by m xs) ≤ g * length xs
   text_grows g h xs = grows_from g h (m.start xs) xs
 
-  taken-pieces : (k : ℕ) (xs : List ℕ) → taken_by (spans_of (pieces_from m k xs)) ≡ length xs
-  taken-pieces k [] = refl
-  taken-pieces k (x ∷ xs) = let rest = taken-pieces (m.next k x xs) xs in omega arith
+  taken_pieces : (k : ℕ) (xs : List ℕ) → taken_by (spans_of (pieces_from m k xs)) ≡ length xs
+  taken_pieces k [] = refl
+  taken_pieces k (x ∷ xs) = let rest = taken_pieces (m.next k x xs) xs in omega arith
 
   -- the places over the first l codes are those before what they show
-  under-before : (k : ℕ) (xs : List ℕ) (l u : ℕ) → l ≤ length xs
+  under_before : (k : ℕ) (xs : List ℕ) (l u : ℕ) → l ≤ length xs
       → (under_by (spans_of (pieces_from m k xs)) u < l) ↔ (u < length (shown_text (take l (pieces_from m k xs))))
-  under-before k [] zero u h = (λ e. absurd (omega arith), λ e. absurd (omega arith))
-  under-before k [] (suc l) u h = absurd (omega arith)
-  under-before k (x ∷ xs) zero u h = (λ e. absurd (omega arith), λ e. absurd (omega arith))
-  under-before k (x ∷ xs) (suc l) u h =
-      let rest = under-before (m.next k x xs) xs l (u - length (m.show k x)) (omega arith) in
+  under_before k [] zero u h = (λ e. absurd (omega arith), λ e. absurd (omega arith))
+  under_before k [] (suc l) u h = absurd (omega arith)
+  under_before k (x ∷ xs) zero u h = (λ e. absurd (omega arith), λ e. absurd (omega arith))
+  under_before k (x ∷ xs) (suc l) u h =
+      let rest = under_before (m.next k x xs) xs l (u - length (m.show k x)) (omega arith) in
       let both = length-append (m.show k x) (shown_text (take l (pieces_from m (m.next k x xs) xs))) in
       (λ e. grind (arith, nat_tests), λ e. grind (arith, nat_tests))
 
 module _ (m : Transducer) (law : Steady m) where
-  all-show : (k : ℕ) (xs : List ℕ) → all_show (spans_of (pieces_from m k xs)) ≡ true
-  all-show k [] = refl
-  all-show k (x ∷ xs) =
-      let rest = all-show (m.next k x xs) xs in
+  all_show_lem : (k : ℕ) (xs : List ℕ) → all_show (spans_of (pieces_from m k xs)) ≡ true
+  all_show_lem k [] = refl
+  all_show_lem k (x ∷ xs) =
+      let rest = all_show_lem (m.next k x xs) xs in
       let some = law.shows k x in
       grind (arith, nat_tests)
 
   pub scan_finds : (xs : List ℕ) → Finds (place_by m xs) (first_by m xs) (last_by m xs) (length (text_by m xs)) (length xs)
-  scan_finds xs = pieces_find (pieces_by m xs) (length xs) (all-show (m.start xs) xs) (taken-pieces m (m.start xs) xs)
+  scan_finds xs = pieces_find (pieces_by m xs) (length xs) (all_show_lem (m.start xs) xs) (taken_pieces m (m.start xs) xs)
 
   pub place_end : (xs : List ℕ) → place_by m xs (length (text_by m xs)) ≡ length xs
   place_end xs = (scan_finds xs).map.ends
@@ -84,8 +84,8 @@ module _ (m : Transducer) (law : Steady m) where
   pub first_reach : (xs : List ℕ) (l : ℕ) → l ≤ length xs → first_by m xs l ≡ reach_by m xs l
   first_reach xs l h =
       let finds = scan_finds xs in
-      let found = under-before m (m.start xs) xs l (first_by m xs l) h in
-      let reached = under-before m (m.start xs) xs l (reach_by m xs l) h in
+      let found = under_before m (m.start xs) xs l (first_by m xs l) h in
+      let reached = under_before m (m.start xs) xs l (reach_by m xs l) h in
       let e₁ = finds.first_rule (first_by m xs l) l (finds.first_in l h) h in
       let e₂ = finds.first_rule (reach_by m xs l) l (reach_le m xs l) h in
       grind arith
@@ -98,12 +98,12 @@ module _ (m : Transducer) (law : Steady m) where
       let start = finds.map.starts in
       let up = reach_le m xs (suc l) in
       let u : ℕ = reach_by m xs (suc l) - 1 in
-      let in-text : u ≤ length (text_by m xs) = omega arith in
-      let found = under-before m (m.start xs) xs (suc l) (last_by m xs l) h in
-      let none = under-before m (m.start xs) xs (suc l) 0 h in
-      let reached = under-before m (m.start xs) xs (suc l) u h in
+      let in_text : u ≤ length (text_by m xs) = omega arith in
+      let found = under_before m (m.start xs) xs (suc l) (last_by m xs l) h in
+      let none = under_before m (m.start xs) xs (suc l) 0 h in
+      let reached = under_before m (m.start xs) xs (suc l) u h in
       let e₁ = finds.last_rule (last_by m xs l) l (finds.last_in l fits) fits in
-      let e₂ = finds.last_rule u l in-text fits in
+      let e₂ = finds.last_rule u l in_text fits in
       grind arith
 
   pub last_end : (xs : List ℕ) → last_by m xs (length xs) ≡ length (text_by m xs)
@@ -140,8 +140,8 @@ module _ (m : Transducer) (xs : List ℕ) (i k : ℕ) (law : Steady m) (l : i < 
       → (place_by m xs u ≡ i) × (get_or (text_by m xs) u 0 ≡ get_or (m.show k (get_or xs i 0)) (u - reach_by m xs i) 0)
   place_held u from to =
       let more = reach_more m xs i k l stands in
-      let here = under-before m (m.start xs) xs i u (omega arith) in
-      let past = under-before m (m.start xs) xs (suc i) u l in
+      let here = under_before m (m.start xs) xs i u (omega arith) in
+      let past = under_before m (m.start xs) xs (suc i) u l in
       let ps : List Piece = pieces_by m xs in
       let halves : text_by m xs ≡ shown_text (take i ps) ++ shown_text (drop i ps) =
       ap shown_text (sym (take-append-drop i ps)) ∙ shown-append (take i ps) (drop i ps) in

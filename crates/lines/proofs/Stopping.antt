@@ -68,32 +68,32 @@ tab_stops_lem w c a one h =
 
 -- what is shown up to and with a tab, behind a text with the column c
 module _ (w : ℕ) (one : 1 ≤ w) where
-  stops-from : (a : List ℕ) (c : ℕ) (xs : List ℕ) (i : ℕ) → c ≡ column a → i < length xs → get_or xs i 0 ≡ tab
+  stops_from : (a : List ℕ) (c : ℕ) (xs : List ℕ) (i : ℕ) → c ≡ column a → i < length xs → get_or xs i 0 ≡ tab
       → column (a ++ shown_text (take (suc i) (pieces_from (tab_stops w) c xs))) % w ≡ 0
-  stops-from a c [] i h l e = absurd (omega arith)
-  stops-from a c (x ∷ xs) zero h l e =
+  stops_from a c [] i h l e = absurd (omega arith)
+  stops_from a c (x ∷ xs) zero h l e =
       ap (λ z. column (a ++ z) % w) (append-nil (tab_shown w c x) ∙ ap (tab_shown w c) e) ∙ tab_stops_lem w c a one h
-  stops-from a c (x ∷ xs) (suc i) h l e =
+  stops_from a c (x ∷ xs) (suc i) h l e =
       let s : List ℕ = tab_shown w c x in
       let next : ℕ = cond (is_row_end x) 0 (c + length s) in
       ap (λ z. column z % w) (sym (append_assoc a s (shown_text (take (suc i) (pieces_from (tab_stops w) next xs)))))
-      ∙ stops-from (a ++ s) next xs i (column_next w c a x h) (omega arith) e
+      ∙ stops_from (a ++ s) next xs i (column_next w c a x h) (omega arith) e
 
-  shown-some : (c x : ℕ) → 0 < length (tab_shown w c x)
-  shown-some c x =
+  shown_some : (c x : ℕ) → 0 < length (tab_shown w c x)
+  shown_some c x =
       let size : length (replicate {A = ℕ} (w - c % w) space) ≡ w - c % w = length-replicate (w - c % w) space in
       let below : c % w < w = mod-lt c one in
       grind (arith, nat_tests)
 
   -- each code shows something
-  more-from : (c : ℕ) (xs : List ℕ) (i : ℕ) → i < length xs
+  more_from : (c : ℕ) (xs : List ℕ) (i : ℕ) → i < length xs
       → length (shown_text (take i (pieces_from (tab_stops w) c xs))) < length (shown_text (take (suc i) (pieces_from (tab_stops w) c xs)))
-  more-from c [] i l = absurd (omega arith)
-  more-from c (x ∷ xs) zero l = omega (arith, shown-some c x, length-append (tab_shown w c x) [])
-  more-from c (x ∷ xs) (suc i) l =
+  more_from c [] i l = absurd (omega arith)
+  more_from c (x ∷ xs) zero l = omega (arith, shown_some c x, length-append (tab_shown w c x) [])
+  more_from c (x ∷ xs) (suc i) l =
       let s : List ℕ = tab_shown w c x in
       let next : ℕ = cond (is_row_end x) 0 (c + length s) in
-      let rest = more-from next xs i (omega arith) in
+      let rest = more_from next xs i (omega arith) in
       omega (arith, length-append s (shown_text (take i (pieces_from (tab_stops w) next xs))), length-append s (shown_text (take (suc i) (pieces_from (tab_stops w) next xs))))
 
 -- the front of the text that the first n pieces show
@@ -119,7 +119,7 @@ tab_most_from w c (x ∷ xs) (suc i) l e =
 pub tabs_end_at_stops : TabsEndAtStops
 tabs_end_at_stops w xs i one l e =
     let ps : List Piece = pieces_by (tab_stops w) xs in (
-      more-from w one 0 xs i l,
+      more_from w one 0 xs i l,
       tab_most_from w 0 xs i l e,
-      ap (λ z. (reach_by (tab_stops w) xs (suc i) - behind_last is_row_end z) % w) (front_shown ps (suc i)) ∙ stops-from w one [] 0 xs i refl l e,
+      ap (λ z. (reach_by (tab_stops w) xs (suc i) - behind_last is_row_end z) % w) (front_shown ps (suc i)) ∙ stops_from w one [] 0 xs i refl l e,
     )

@@ -24,7 +24,7 @@ wrapped_from rule k (x ∷ xs) =
 shown_wrapped : (rule : List ℕ → ℕ) (k : ℕ) (xs : List ℕ) → shown_text (pieces_from (soft_wrap rule) k xs) ≡ wrapped_from rule k xs
 shown_wrapped rule k [] = refl
 shown_wrapped rule k (x ∷ xs) =
-    let at-end = shown_wrapped rule (rule (line_rest xs)) xs in
+    let at_end = shown_wrapped rule (rule (line_rest xs)) xs in
     let in_row = shown_wrapped rule (k - 1) xs in
     let broken = shown_wrapped rule (rule (x ∷ line_rest xs) - 1) xs in
     grind (arith, nat_tests)
@@ -55,7 +55,7 @@ row_short w l h = grind (arith, nat_tests)
 without_wrapped : (rule : List ℕ → ℕ) (k : ℕ) (xs : List ℕ) → without_breaks (wrapped_from rule k xs) ≡ without_breaks xs
 without_wrapped rule k [] = refl
 without_wrapped rule k (x ∷ xs) =
-    let at-end = without_wrapped rule (rule (line_rest xs)) xs in
+    let at_end = without_wrapped rule (rule (line_rest xs)) xs in
     let in_row = without_wrapped rule (k - 1) xs in
     let broken = without_wrapped rule (rule (x ∷ line_rest xs) - 1) xs in
     grind (arith, nat_tests)
@@ -99,37 +99,37 @@ fit_code w k j x t e f l h =
     (λ _. (omega (arith, first_before x (rows t)), all_before w x (rows t) (omega arith) f.1))
 
 module _ (rule : List ℕ → ℕ) (w : ℕ) (one : 1 ≤ w) (most : (l : List ℕ) → rule l ≤ w) where
-  fit-wrapped : (k : ℕ) (xs : List ℕ) → k ≤ w → Fit w k (rows (wrapped_from rule k xs))
+  fit_wrapped : (k : ℕ) (xs : List ℕ) → k ≤ w → Fit w k (rows (wrapped_from rule k xs))
   unfolding Fit
-  fit-wrapped k [] h = (omega arith, (omega arith, tt))
-  fit-wrapped k (x ∷ xs) h =
-      let most-left = most (line_rest xs) in
-      let most-here = most (x ∷ line_rest xs) in
+  fit_wrapped k [] h = (omega arith, (omega arith, tt))
+  fit_wrapped k (x ∷ xs) h =
+      let most_left = most (line_rest xs) in
+      let most_here = most (x ∷ line_rest xs) in
       let P : List ℕ → Type 0 = λ t. Fit w k (rows t) in
       let ended : List ℕ = wrapped_from rule (rule (line_rest xs)) xs in
       let going : List ℕ = wrapped_from rule (k - 1) xs in
       let anew : List ℕ = wrapped_from rule (rule (x ∷ line_rest xs) - 1) xs in
       cond_both (is_row_end x) (x ∷ ended) (cond (ltb 0 k) (x ∷ going) (soft_break ∷ x ∷ anew)) P
-      (λ e. fit_end w k (rule (line_rest xs)) x ended e (fit-wrapped (rule (line_rest xs)) xs most-left))
+      (λ e. fit_end w k (rule (line_rest xs)) x ended e (fit_wrapped (rule (line_rest xs)) xs most_left))
       (λ e. cond_both (ltb 0 k) (x ∷ going) (soft_break ∷ x ∷ anew) P
-      (λ l. let room : 0 < k = grind (arith, nat_tests) in fit_code w k (k - 1) x going e (fit-wrapped (k - 1) xs (omega arith)) (omega arith) h)
+      (λ l. let room : 0 < k = grind (arith, nat_tests) in fit_code w k (k - 1) x going e (fit_wrapped (k - 1) xs (omega arith)) (omega arith) h)
       (λ l. fit_end w k w soft_break (x ∷ anew) refl
-      (fit_code w w (rule (x ∷ line_rest xs) - 1) x anew e (fit-wrapped (rule (x ∷ line_rest xs) - 1) xs (omega arith)) (omega arith) (omega arith))))
+      (fit_code w w (rule (x ∷ line_rest xs) - 1) x anew e (fit_wrapped (rule (x ∷ line_rest xs) - 1) xs (omega arith)) (omega arith) (omega arith))))
 
   all_fit : (xs : List ℕ) → All (λ r. length r ≤ w) (rows (text_by (soft_wrap rule) xs))
   unfolding Fit
   all_fit xs =
       let P : List ℕ → Type 0 = λ t. All (λ r. length r ≤ w) (rows t) in
-      subst P (sym (text_wrapped rule xs)) (fit-wrapped (rule (line_rest xs)) xs (most (line_rest xs))).1
+      subst P (sym (text_wrapped rule xs)) (fit_wrapped (rule (line_rest xs)) xs (most (line_rest xs))).1
 
 pub rows_fit : RowsFit
 rows_fit w xs h = all_fit (row_length w) w h (row_most w) xs
 
 -- what holds of every front that a rule takes of a longer rest of a line holds of every row that a soft break closes
 module _ (rule : List ℕ → ℕ) (some : (x : ℕ) (l : List ℕ) → 1 ≤ rule (x ∷ l)) (Q : List ℕ → Type 0) (fronts : (l : List ℕ) → rule l < length l → Q (take (rule l) l)) where
-  broken-wrapped : (r : List ℕ) (k : ℕ) (xs : List ℕ) → unbroken xs ≡ true → rule (r ++ line_rest xs) ≡ length r + k → All Q (broken_rows r (wrapped_from rule k xs))
-  broken-wrapped r k [] s h = tt
-  broken-wrapped r k (x ∷ xs) s h =
+  broken_wrapped : (r : List ℕ) (k : ℕ) (xs : List ℕ) → unbroken xs ≡ true → rule (r ++ line_rest xs) ≡ length r + k → All Q (broken_rows r (wrapped_from rule k xs))
+  broken_wrapped r k [] s h = tt
+  broken_wrapped r k (x ∷ xs) s h =
       let P : List ℕ → Type 0 = λ t. All Q (broken_rows r t) in
       let ended : List ℕ = wrapped_from rule (rule (line_rest xs)) xs in
       let going : List ℕ = wrapped_from rule (k - 1) xs in
@@ -138,26 +138,26 @@ module _ (rule : List ℕ → ℕ) (some : (x : ℕ) (l : List ℕ) → 1 ≤ ru
       let hard : is_soft_break x ≡ false = grind (arith, nat_tests) in
       cond_both (is_row_end x) (x ∷ ended) (cond (ltb 0 k) (x ∷ going) (soft_break ∷ x ∷ anew)) P
       (λ e. let same : broken_rows r (x ∷ ended) ≡ broken_rows [] ended = grind (arith, nat_tests) in
-      subst (All Q) (sym same) (broken-wrapped [] (rule (line_rest xs)) xs left (omega arith)))
+      subst (All Q) (sym same) (broken_wrapped [] (rule (line_rest xs)) xs left (omega arith)))
       (λ e. let whole : line_rest (x ∷ xs) ≡ x ∷ line_rest xs = grind (arith, nat_tests) in
       let taken : rule (r ++ x ∷ line_rest xs) ≡ length r + k = ap (λ l. rule (r ++ l)) (sym whole) ∙ h in
       cond_both (ltb 0 k) (x ∷ going) (soft_break ∷ x ∷ anew) P
       (λ l. let room : 0 < k = grind (arith, nat_tests) in
       let same : broken_rows r (x ∷ going) ≡ broken_rows (r ++ x ∷ []) going = grind (arith, nat_tests) in
-      subst (All Q) (sym same) (broken-wrapped (r ++ x ∷ []) (k - 1) xs left
+      subst (All Q) (sym same) (broken_wrapped (r ++ x ∷ []) (k - 1) xs left
       (ap rule (append_assoc r (x ∷ []) (line_rest xs)) ∙ taken ∙ omega (arith, length-append r (x ∷ [])))))
       (λ l. let none : k ≡ 0 = grind (arith, nat_tests) in
       let same : broken_rows [] (x ∷ anew) ≡ broken_rows (x ∷ []) anew = grind (arith, nat_tests) in
       let exact : rule (r ++ x ∷ line_rest xs) ≡ length r = omega arith in
       let here : take (rule (r ++ x ∷ line_rest xs)) (r ++ x ∷ line_rest xs) ≡ r = ap (λ z. take z (r ++ x ∷ line_rest xs)) exact ∙ take_at r (x ∷ line_rest xs) (length r) refl in (
         subst Q here (fronts (r ++ x ∷ line_rest xs) (omega (arith, length-append r (x ∷ line_rest xs)))),
-        subst (All Q) (sym same) (broken-wrapped (x ∷ []) (rule (x ∷ line_rest xs) - 1) xs left (omega (arith, some x (line_rest xs)))),
+        subst (All Q) (sym same) (broken_wrapped (x ∷ []) (rule (x ∷ line_rest xs) - 1) xs left (omega (arith, some x (line_rest xs)))),
       )))
 
-  all-broken : (xs : List ℕ) → unbroken xs ≡ true → All Q (broken_rows [] (text_by (soft_wrap rule) xs))
-  all-broken xs s =
+  all_broken : (xs : List ℕ) → unbroken xs ≡ true → All Q (broken_rows [] (text_by (soft_wrap rule) xs))
+  all_broken xs s =
       let P : List ℕ → Type 0 = λ t. All Q (broken_rows [] t) in
-      subst P (sym (text_wrapped rule xs)) (broken-wrapped [] (rule (line_rest xs)) xs s (omega arith))
+      subst P (sym (text_wrapped rule xs)) (broken_wrapped [] (rule (line_rest xs)) xs s (omega arith))
 
 -- the last code before that place is a space
 behind_space : (xs : List ℕ) (j : ℕ) → behind_last is_space xs ≡ suc j → is_space (get_or xs j 0) ≡ true
@@ -186,19 +186,19 @@ row_well_broken w l h =
     (cases_eq a 0)
 
 pub rows_well_broken : RowsWellBroken
-rows_well_broken w xs h = all-broken (row_length w) (row_some w h) (WellBroken w) (row_well_broken w) xs
+rows_well_broken w xs h = all_broken (row_length w) (row_some w h) (WellBroken w) (row_well_broken w) xs
 
 -- a row that is shorter than the rest of its line is shown, then a soft break, and all begins anew
 module _ (rule : List ℕ → ℕ) (some : (x : ℕ) (l : List ℕ) → 1 ≤ rule (x ∷ l)) where
-  row-broken : (k : ℕ) (xs : List ℕ) → k < length (line_rest xs)
+  row_broken : (k : ℕ) (xs : List ℕ) → k < length (line_rest xs)
       → wrapped_from rule k xs ≡ take k xs ++ (soft_break ∷ wrapped_from rule (rule (line_rest (drop k xs))) (drop k xs))
-  row-broken k [] h = absurd (omega arith)
-  row-broken zero (x ∷ xs) h = let one = some x (line_rest xs) in grind (arith, nat_tests)
-  row-broken (suc k) (x ∷ xs) h =
+  row_broken k [] h = absurd (omega arith)
+  row_broken zero (x ∷ xs) h = let one = some x (line_rest xs) in grind (arith, nat_tests)
+  row_broken (suc k) (x ∷ xs) h =
       let code : is_row_end x ≡ false = grind (arith, nat_tests) in
       let less : k < length (line_rest xs) = grind (arith, nat_tests) in
       let back : suc k - 1 ≡ k = omega arith in
-      let rest = row-broken k xs less in
+      let rest = row_broken k xs less in
       grind (arith, nat_tests)
 
 -- the rest of a line that fits is shown whole, and what the row then still takes does not matter
@@ -217,7 +217,7 @@ pub long_lines_break : LongLinesBreak
 long_lines_break w xs one h =
     let k = row_length w (line_rest xs) in
     text_wrapped (row_length w) xs
-    ∙ row-broken (row_length w) (row_some w one) k xs (omega (arith, row_most w (line_rest xs)))
+    ∙ row_broken (row_length w) (row_some w one) k xs (omega (arith, row_most w (line_rest xs)))
     ∙ ap (λ z. take k xs ++ (soft_break ∷ z)) (sym (text_wrapped (row_length w) (drop k xs)))
 
 -- a row end is shown as it is, and what follows is wrapped anew

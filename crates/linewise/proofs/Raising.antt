@@ -25,12 +25,12 @@ pub record ByNew (m : Transducer) (ys : List ℕ) (c : Change) (len s : ℕ) (ow
   pub new : own.new ≡ reach_by m ys (line_end ys (c.start + c.new)) - own.start
 
 module _ (m : Transducer) (law : Steady m) (xs ys : List ℕ) (c : Change) (k : Kept xs ys c) (len : ℕ) (sized : len ≡ length (text_by m xs)) (p s : ℕ) (from : first_by m xs p ≡ s) (own : Change) (by : ByNew m ys c len s own) where
-  lines-raised : own ≡ record {
+  lines_raised_lem : own ≡ record {
     start = first_by m xs p;
     old = first_by m xs (line_end xs (c.start + c.old)) - first_by m xs p;
     new = first_by m ys (line_end xs (c.start + c.old) + c.new - c.old) - first_by m xs p;
   }
-  lines-raised =
+  lines_raised_lem =
       let end = end_by_new m law xs ys c.start c.old c.new k in
       let now : first_by m ys (line_end xs (c.start + c.old) + c.new - c.old) ≡ reach_by m ys (line_end ys (c.start + c.new)) =
       ap (first_by m ys) (line_end_new xs ys c.start c.old c.new k)
@@ -47,10 +47,10 @@ module _ (m : Transducer) (law : Steady m) (xs ys : List ℕ) (c : Change) (k : 
 pub tabs_raised : (w : ℕ) → 1 ≤ w → (xs ys : List ℕ) (c : Change) → Kept xs ys c → (len : ℕ) → len ≡ length (text_by (tab_stops w) xs)
     → (own : Change) → ByNew (tab_stops w) ys c len (reach_by (tab_stops w) ys c.start) own → own ≡ raised (tabs w) xs ys c
 tabs_raised w h xs ys c k len sized own by =
-    lines-raised (tab_stops w) (tabs_steady w h) xs ys c k len sized c.start _ (near_start (tab_stops w) (tabs_steady w h) (tabs_blind w) xs ys c.start c.old c.new k) own by
+    lines_raised_lem (tab_stops w) (tabs_steady w h) xs ys c k len sized c.start _ (near_start (tab_stops w) (tabs_steady w h) (tabs_blind w) xs ys c.start c.old c.new k) own by
 
 pub wrap_raised : (w : ℕ) (xs ys : List ℕ) (c : Change) → Kept xs ys c → (len : ℕ) → len ≡ length (text_by (soft_wrap (row_length w)) xs)
     → (own : Change) → ByNew (soft_wrap (row_length w)) ys c len (reach_by (soft_wrap (row_length w)) ys (line_start ys c.start)) own → own ≡ raised (wrap w) xs ys c
 wrap_raised w xs ys c k len sized own by =
-    lines-raised (soft_wrap (row_length w)) (wrap_steady (row_length w)) xs ys c k len sized (line_start xs c.start) _
+    lines_raised_lem (soft_wrap (row_length w)) (wrap_steady (row_length w)) xs ys c k len sized (line_start xs c.start) _
     (line_start_same (soft_wrap (row_length w)) (wrap_steady (row_length w)) xs ys c.start c.old c.new k) own by

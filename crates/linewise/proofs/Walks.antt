@@ -19,15 +19,15 @@ walked_none m xs k b e =
     record { reached = sym (reach_none m xs); stands = subst P (sym e) (stands_none m xs); small = omega (arith, b.start_small xs) }
 
 module _ (m : Transducer) (xs : List ℕ) (i r k x n : ℕ) (h : Walked m xs i r k) (inside : i < length xs) (here : x ≡ get_or xs i 0) (size : n ≡ length (m.show k x)) where
-  size-here : n ≡ length (m.show k (get_or xs i 0))
-  size-here = size ∙ ap (λ (z : ℕ). length (m.show k z)) here
+  size_here : n ≡ length (m.show k (get_or xs i 0))
+  size_here = size ∙ ap (λ (z : ℕ). length (m.show k z)) here
 
   pub reached_more : r + n ≡ reach_by m xs (i + 1)
   reached_more =
       let next : suc i ≡ i + 1 = omega arith in
       let e : reach_by m xs (i + 1) ≡ reach_by m xs i + length (m.show k (get_or xs i 0)) = ap (reach_by m xs) (sym next) ∙ reach_more m xs i k inside h.stands in
       let f = h.reached in
-      let s = size-here in
+      let s = size_here in
       omega arith
 
   -- what is shown so far can be counted where the text above can
@@ -49,7 +49,7 @@ module _ (m : Transducer) (xs : List ℕ) (i r k x n : ℕ) (h : Walked m xs i r
   -- a place among the codes that are shown of this one
   module _ (u : ℕ) (steady : Steady m) (from : r ≤ u) (to : u < r + n) where
     held : (place_by m xs u ≡ i) × (get_or (text_by m xs) u 0 ≡ get_or (m.show k (get_or xs i 0)) (u - reach_by m xs i) 0)
-    held = place_held m xs i k steady inside h.stands u (omega (arith, h.reached)) (omega (arith, h.reached, size-here))
+    held = place_held m xs i k steady inside h.stands u (omega (arith, h.reached)) (omega (arith, h.reached, size_here))
 
     pub seek_under : i ≡ place_by m xs u
     seek_under = sym held.0

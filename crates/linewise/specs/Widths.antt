@@ -33,20 +33,20 @@ width_taken low high o a b = grind (arith, nat_tests)
 
 module _ {V S : Type 0} (e : Eyes V S) (v : V) where
   -- with any width that the kind takes
-  tabs-walk : (w : ℕ) → 1 ≤ w → w ≤ 16 → e.sound v → length (textAt e v) ≤ 1073741824 → 16 * length (textAt e v) ≤ 1073741824 → Walkable e v (tab_stops w)
-  tabs-walk w a b s l r = record { sound = s; low = l; high = omega (arith, text_grows (tab_stops w) 16 (λ k x. tabs_shown_le w k x b a) (textAt e v)) }
+  tabs_walk : (w : ℕ) → 1 ≤ w → w ≤ 16 → e.sound v → length (textAt e v) ≤ 1073741824 → 16 * length (textAt e v) ≤ 1073741824 → Walkable e v (tab_stops w)
+  tabs_walk w a b s l r = record { sound = s; low = l; high = omega (arith, text_grows (tab_stops w) 16 (λ k x. tabs_shown_le w k x b a) (textAt e v)) }
 
-  wrap-walk : (w : ℕ) → e.sound v → length (textAt e v) ≤ 1073741824 → 2 * length (textAt e v) ≤ 1073741824 → Walkable e v (soft_wrap (row_length w))
-  wrap-walk w s l r = record { sound = s; low = l; high = omega (arith, text_grows (soft_wrap (row_length w)) 2 (wrap_shown_le (row_length w)) (textAt e v)) }
+  wrap_walk : (w : ℕ) → e.sound v → length (textAt e v) ≤ 1073741824 → 2 * length (textAt e v) ≤ 1073741824 → Walkable e v (soft_wrap (row_length w))
+  wrap_walk w s l r = record { sound = s; low = l; high = omega (arith, text_grows (soft_wrap (row_length w)) 2 (wrap_shown_le (row_length w)) (textAt e v)) }
 
   pub tabs_over : (w x : ℕ) → 1 ≤ x → x ≤ 16 → Over e v (tabs w) → Walkable e v (tab_stops x)
-  tabs_over w x a b o = tabs-walk x a b o.sound o.low o.room
+  tabs_over w x a b o = tabs_walk x a b o.sound o.low o.room
 
   pub wrap_over : (w x : ℕ) → Over e v (wrap w) → Walkable e v (soft_wrap (row_length x))
-  wrap_over w x o = wrap-walk x o.sound o.low o.room
+  wrap_over w x o = wrap_walk x o.sound o.low o.room
 
   pub tabs_behind : (w : ℕ) (c : Change) → Behind e v (tabs w) c → Walkable e v (tab_stops w)
-  tabs_behind w c b = tabs-walk w b.fit.0 b.fit.1 b.sound b.low b.room
+  tabs_behind w c b = tabs_walk w b.fit.0 b.fit.1 b.sound b.low b.room
 
   pub wrap_behind : (w : ℕ) (c : Change) → Behind e v (wrap w) c → Walkable e v (soft_wrap (row_length w))
-  wrap_behind w c b = wrap-walk w b.sound b.low b.room
+  wrap_behind w c b = wrap_walk w b.sound b.low b.room

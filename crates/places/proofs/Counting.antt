@@ -15,17 +15,17 @@ end_push (x ∷ ms) m p = end_push ms m (past x)
 
 -- one mark more in each sum
 module _ (ms : List Mark) (j : ℕ) (m : Mark) (l : j < length ms) (e : m ≡ get_or ms j m) where
-  front-more : take (j + 1) ms ≡ take j ms ++ (m ∷ [])
-  front-more = take_more ms j m l ∙ ap (λ z. take j ms ++ (z ∷ [])) (sym e)
+  front_more : take (j + 1) ms ≡ take j ms ++ (m ∷ [])
+  front_more = take_more ms j m l ∙ ap (λ z. take j ms ++ (z ∷ [])) (sym e)
 
   pub taken_more : taken_in (take (j + 1) ms) ≡ taken_in (take j ms) + m.takes
-  taken_more = omega (arith, ap taken_in front-more, taken_in_append (take j ms) (m ∷ []))
+  taken_more = omega (arith, ap taken_in front_more, taken_in_append (take j ms) (m ∷ []))
 
   pub shown_more : shown_in (take (j + 1) ms) ≡ shown_in (take j ms) + length m.shows
-  shown_more = omega (arith, ap shown_in front-more, shown_in_append (take j ms) (m ∷ []))
+  shown_more = omega (arith, ap shown_in front_more, shown_in_append (take j ms) (m ∷ []))
 
   pub end_more : end_by 0 (take (j + 1) ms) ≡ past m
-  end_more = ap (end_by 0) front-more ∙ end_push (take j ms) m 0
+  end_more = ap (end_by 0) front_more ∙ end_push (take j ms) m 0
 
 -- no sum of the first marks is larger than that of all
 pub taken_front : (ms : List Mark) (j : ℕ) → taken_in (take j ms) ≤ taken_in ms

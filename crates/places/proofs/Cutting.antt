@@ -21,17 +21,17 @@ pieces_behind a b u start e l =
 
 -- before the next mark each code is shown as it is
 module _ (c N : ℕ) (xs : List ℕ) (long : N ≡ c + length xs) (v : ℕ) where
-  ahead-under : (ms : List Mark) → Placed c ms N → Beyond (c + v) ms → v ≤ length (shown_text (laid c ms xs)) → under_by (spans_of (laid c ms xs)) v ≡ v
-  ahead-under [] h b l = under_none xs v (omega (arith, ap length (laid_none xs)))
-  ahead-under (m ∷ ms) h b l =
+  ahead_under : (ms : List Mark) → Placed c ms N → Beyond (c + v) ms → v ≤ length (shown_text (laid c ms xs)) → under_by (spans_of (laid c ms xs)) v ≡ v
+  ahead_under [] h b l = under_none xs v (omega (arith, ap length (laid_none xs)))
+  ahead_under (m ∷ ms) h b l =
       let le = placed_le ms (past m) N h.2 in
       let ahead : length (take (m.at - c) xs) ≡ m.at - c = omega (arith, length-take (m.at - c) xs) in
       let here = plain_under (onward m ms c xs) (take (m.at - c) xs) v in
       grind (arith, nat_tests)
 
-  ahead-text : (ms : List Mark) → Placed c ms N → Beyond (c + v) ms → get_or (shown_text (laid c ms xs)) v 0 ≡ get_or xs v 0
-  ahead-text [] h b = ap (λ z. get_or z v 0) (laid_none xs)
-  ahead-text (m ∷ ms) h b =
+  ahead_text : (ms : List Mark) → Placed c ms N → Beyond (c + v) ms → get_or (shown_text (laid c ms xs)) v 0 ≡ get_or xs v 0
+  ahead_text [] h b = ap (λ z. get_or z v 0) (laid_none xs)
+  ahead_text (m ∷ ms) h b =
       let le = placed_le ms (past m) N h.2 in
       let ahead : v < length (take (m.at - c) xs) = omega (arith, length-take (m.at - c) xs) in
       ap (λ z. get_or z v 0) (plain_text (onward m ms c xs) (take (m.at - c) xs))
@@ -57,11 +57,11 @@ module _ (a b : List Mark) (c : ℕ) (xs : List ℕ) (ha : Placed 0 a c) (hb : P
         × (get_or (shown_text (laid 0 a (take c xs) ++ laid c b (drop c xs))) u 0 ≡ get_or (shown_text (laid c b (drop c xs))) (u - start) 0)
     both = pieces_behind (laid 0 a (take c xs)) (laid c b (drop c xs)) u start starts l
 
-    under-behind : under_by (spans_of (laid 0 (a ++ b) xs)) u ≡ c + under_by (spans_of (laid c b (drop c xs))) (u - start)
-    under-behind = omega (arith, ap (λ z. under_by (spans_of z) u) halves, both.0, laid_taken a 0 c (take c xs) ha half, half)
+    under_behind : under_by (spans_of (laid 0 (a ++ b) xs)) u ≡ c + under_by (spans_of (laid c b (drop c xs))) (u - start)
+    under_behind = omega (arith, ap (λ z. under_by (spans_of z) u) halves, both.0, laid_taken a 0 c (take c xs) ha half, half)
 
-    text-behind : get_or (shown_text (laid 0 (a ++ b) xs)) u 0 ≡ get_or (shown_text (laid c b (drop c xs))) (u - start) 0
-    text-behind = ap (λ z. get_or (shown_text z) u 0) halves ∙ both.1
+    text_behind : get_or (shown_text (laid 0 (a ++ b) xs)) u 0 ≡ get_or (shown_text (laid c b (drop c xs))) (u - start) 0
+    text_behind = ap (λ z. get_or (shown_text z) u 0) halves ∙ both.1
 
     -- between the marks a and b
     module _ (next : Beyond (c + (u - start)) b) where
@@ -73,10 +73,10 @@ module _ (a b : List Mark) (c : ℕ) (xs : List ℕ) (ha : Placed 0 a c) (hb : P
           let whole : length (shown_text (laid 0 (a ++ b) xs)) ≡ start + length (shown_text (laid c b (drop c xs))) =
           ap (λ z. length (shown_text z)) halves ∙ ap length (shown-append (laid 0 a (take c xs)) (laid c b (drop c xs)))
           ∙ length-append (shown_text (laid 0 a (take c xs))) (shown_text (laid c b (drop c xs))) ∙ ap (λ z. z + length (shown_text (laid c b (drop c xs)))) starts in
-          under-behind ∙ ap (λ z. c + z) (ahead-under c (length xs) (drop c xs) long (u - start) b hb next (omega arith))
+          under_behind ∙ ap (λ z. c + z) (ahead_under c (length xs) (drop c xs) long (u - start) b hb next (omega arith))
 
       pub text_between : get_or (shown_text (laid 0 (a ++ b) xs)) u 0 ≡ get_or xs (c + (u - start)) 0
-      text_between = text-behind ∙ ahead-text c (length xs) (drop c xs) long (u - start) b hb next ∙ get_or-drop c xs (u - start) 0
+      text_between = text_behind ∙ ahead_text c (length xs) (drop c xs) long (u - start) b hb next ∙ get_or-drop c xs (u - start) 0
 
 -- in what the mark m shows
 module _ (a b : List Mark) (m : Mark) (xs : List ℕ) (ha : Placed 0 a m.at) (hb : Placed m.at (m ∷ b) (length xs))
@@ -89,12 +89,12 @@ module _ (a b : List Mark) (m : Mark) (xs : List ℕ) (ha : Placed 0 a m.at) (hb
 
   pub under_inside : under_by (spans_of (laid 0 (a ++ (m ∷ b)) xs)) u ≡ m.at
   under_inside =
-      let behind = under-behind a (m ∷ b) m.at xs ha hb u start e l in
+      let behind = under_behind a (m ∷ b) m.at xs ha hb u start e l in
       let once = ap (λ z. under_by (spans_of z) (u - start)) at_once in
-      let in-shows : u - start < length m.shows = omega arith in
+      let in_shows : u - start < length m.shows = omega arith in
       grind (arith, nat_tests)
 
   pub text_inside : get_or (shown_text (laid 0 (a ++ (m ∷ b)) xs)) u 0 ≡ get_or m.shows (u - start) 0
   text_inside =
-      text-behind a (m ∷ b) m.at xs ha hb u start e l ∙ ap (λ z. get_or (shown_text z) (u - start) 0) at_once
+      text_behind a (m ∷ b) m.at xs ha hb u start e l ∙ ap (λ z. get_or (shown_text z) (u - start) 0) at_once
       ∙ get_or_append_left m.shows (shown_text (laid (past m) b (drop m.takes (drop m.at xs)))) 0 (u - start) (omega arith)

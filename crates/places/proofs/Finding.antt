@@ -30,8 +30,8 @@ greatest_behind p zero k h l = absurd (omega arith)
 greatest_behind p (suc n) k h l = let rest = greatest_behind p n k in grind (arith, cases_eq k (suc n))
 
 module _ (under : ℕ → ℕ) (t n : ℕ) (map : Rises under t n) where
-  first-meets : (u d : ℕ) → u ≤ t → d ≤ n → (first_of under t d ≤ u) ↔ (d ≤ under u)
-  first-meets u d hu hd =
+  first_meets : (u d : ℕ) → u ≤ t → d ≤ n → (first_of under t d ≤ u) ↔ (d ≤ under u)
+  first_meets u d hu hd =
       let passes : ℕ → Bool = λ v. leb d (under v) in
       let found : ℕ = first_of under t d in
       let reached = leb-true d (under found) (least_passes passes t (le-leb d (under t) (omega (arith, map.ends)))) in (
@@ -54,7 +54,7 @@ module _ (under : ℕ → ℕ) (t n : ℕ) (map : Rises under t n) where
     map = map;
     first_in = λ d _. least_le (λ u. leb d (under u)) t;
     last_in = λ d _. greatest_le (λ u. leb (under u) d) t;
-    first_rule = first-meets;
+    first_rule = first_meets;
     last_rule = last_meets;
   }
 

@@ -42,11 +42,11 @@ followed_placed ms s o n N M h f e =
 
 -- for both kinds: from where the reach of the change begins to where it ends
 module _ (ms : List Mark) (xs ys : List ℕ) (s o n : ℕ) (h : Placed 0 ms (length xs)) (kept : Keeps xs ys s o n) where
-  follow-keeps : (i j k : ℕ) → i + taken_in (ended s ms) ≡ lowest s o ms + shown_in (ended s ms)
+  follow_keeps : (i j k : ℕ) → i + taken_in (ended s ms) ≡ lowest s o ms + shown_in (ended s ms)
       → j + taken_in (begun (s + o) (unended s ms)) ≡ (highest s o ms - lowest s o ms) + shown_in (begun (s + o) (unended s ms))
       → k ≡ highest s o ms + n - o - lowest s o ms
       → Keeps (shown_text (laid 0 ms xs)) (shown_text (laid 0 (followed s o n ms) ys)) i j k
-  follow-keeps i j k ei ej ek =
+  follow_keeps i j k ei ej ek =
       let N : ℕ = length xs in
       let all = parts s o 0 N ms h (omega arith) kept.old_fits in
       let a : List Mark = ended s ms in
@@ -58,10 +58,10 @@ module _ (ms : List Mark) (xs ys : List ℕ) (s o n : ℕ) (h : Placed 0 ms (len
       let l₂ = highest_ge s o ms in
       let l₃ : c ≤ N = placed_le b c N all.move in
       let q : ℕ = c - p in
-      let c-is : c ≡ p + q = omega arith in
+      let c_is : c ≡ p + q = omega arith in
       let wide : Keeps xs ys p q k = keeps_wider xs ys s o n p q k kept l₁ (omega arith) (omega arith) (omega arith) in
-      let hd : Placed p d (p + q) = subst (λ z. Placed p d z) c-is all.drop in
-      let hb : Placed (p + q) b N = subst (λ z. Placed z b N) c-is all.move in
+      let hd : Placed p d (p + q) = subst (λ z. Placed p d z) c_is all.drop in
+      let hb : Placed (p + q) b N = subst (λ z. Placed z b N) c_is all.move in
       let long = keeps_length xs ys p q k wide in
       let hm : Placed (p + k) (map (moved q k) b) (length ys) = placed_moved b (p + q) (p + k) q k N (length ys) (omega arith) (omega arith) long hb in
       let base = relaid_keeps a d [] b xs ys p q k all.stay hd (omega arith) hb hm wide i j k ei ej refl in
@@ -91,11 +91,11 @@ hints_follow ms xs ys s o n g h kept =
     let b : List Mark = unbegun (s + o) r in
     let p : ℕ = lowest s o ms in
     let c : ℕ = highest s o ms in
-    let p-is : p ≡ s = light_lowest s o ms g in
-    let c-is : c ≡ s + o = light_highest s o ms g in
+    let p_is : p ≡ s = light_lowest s o ms g in
+    let c_is : c ≡ s + o = light_highest s o ms g in
     let ha : Placed 0 a s = ended_placed s 0 N ms h (omega arith) in
-    let hb : Placed (s + o) b N = subst (λ z. Placed z b N) c-is all.move in
-    let had : Placed 0 (a ++ d) (s + o) = subst (λ z. Placed 0 (a ++ d) z) c-is (placed-append a d 0 p c all.stay all.drop) in
+    let hb : Placed (s + o) b N = subst (λ z. Placed z b N) c_is all.move in
+    let had : Placed 0 (a ++ d) (s + o) = subst (λ z. Placed 0 (a ++ d) z) c_is (placed-append a d 0 p c all.stay all.drop) in
     let whole : a ++ (d ++ b) ≡ ms = split_both s (s + o) ms in
     let g₁ = light_parts a (d ++ b) (subst Light (sym whole) g) in
     let g₂ = light_parts d b g₁.1 in
@@ -110,7 +110,7 @@ hints_follow ms xs ys s o n g h kept =
     (λ (z : o ≡ 0).
     let same_s : s + o ≡ s = omega arith in
     let none : d ≡ [] = ap (λ v. begun v r) same_s ∙ beyond_none s r over in
-    let none-shown : shown_in d ≡ 0 = ap shown_in none in
+    let none_shown : shown_in d ≡ 0 = ap shown_in none in
     grind (arith, nat_tests))
     (λ (z : o ≡ 0 → ⊥).
     let before : All (λ m. m.at < s + o) (a ++ d) =
@@ -119,7 +119,7 @@ hints_follow ms xs ys s o n g h kept =
     let e₂ : first_by 0 ((a ++ d) ++ b) (s + o) ≡ first_by 0 ms (s + o) = ap (λ z. first_by 0 z (s + o)) (append_assoc a d b ∙ whole) in
     grind (arith, nat_tests))
     (cases_eq o 0) in
-    follow-keeps ms xs ys s o n h kept L (cond (eqb o 0) 0 (F - L)) n (omega arith) old (omega arith)
+    follow_keeps ms xs ys s o n h kept L (cond (eqb o 0) 0 (F - L)) n (omega arith) old (omega arith)
 
 -- when folds follow, the text above changes from the first place over the lowest place reached to the first over the
 -- highest
@@ -151,4 +151,4 @@ folds_follow ms xs ys s o n g h kept =
     let r₁ = placed_room d p c all.drop in
     let r₂ = taken_in_append a d in
     let r₃ = shown_in_append a d in
-    follow-keeps ms xs ys s o n h kept _ _ _ (omega arith) (omega arith) refl
+    follow_keeps ms xs ys s o n h kept _ _ _ (omega arith) (omega arith) refl

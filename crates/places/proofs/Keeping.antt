@@ -17,13 +17,13 @@ pub keeps_wider : {X : Type 0} (before after : List X) (s o n p q r : ℕ) → K
     → p ≤ s → s + o ≤ p + q → p + q ≤ length before → r + o ≡ q + n → Keeps before after p q r
 keeps_wider before after s o n p q r k l h f e =
     let more : ℕ = p + q - (s + o) in
-    let new-end : p + r ≡ (s + n) + more = omega arith in
-    let old-end : (s + o) + more ≡ p + q = omega arith in
+    let new_end : p + r ≡ (s + n) + more = omega arith in
+    let old_end : (s + o) + more ≡ p + q = omega arith in
     record {
       front = sym (take-take p s after l) ∙ ap (take p) k.front ∙ take-take p s before l;
       back =
-          ap (λ z. drop z after) new-end ∙ sym (drop-drop more (s + n) after) ∙ ap (drop more) k.back
-          ∙ drop-drop more (s + o) before ∙ ap (λ z. drop z before) old-end;
+          ap (λ z. drop z after) new_end ∙ sym (drop-drop more (s + n) after) ∙ ap (drop more) k.back
+          ∙ drop-drop more (s + o) before ∙ ap (λ z. drop z before) old_end;
       old_fits = f;
       new_fits = omega (arith, keeps_length before after s o n k);
     }

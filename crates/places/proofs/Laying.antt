@@ -10,17 +10,17 @@ use Rattle.places.proofs.Placing.{placed_le}
 
 -- codes shown as they are, in front of other pieces
 module _ (ps : List Piece) where
-  plain-shows : (xs : List ℕ) → all_show (spans_of (plain xs ++ ps)) ≡ all_show (spans_of ps)
-  plain-shows [] = refl
-  plain-shows (x ∷ xs) = plain-shows xs
+  plain_shows : (xs : List ℕ) → all_show (spans_of (plain xs ++ ps)) ≡ all_show (spans_of ps)
+  plain_shows [] = refl
+  plain_shows (x ∷ xs) = plain_shows xs
 
-  plain-taken : (xs : List ℕ) → taken_by (spans_of (plain xs ++ ps)) ≡ length xs + taken_by (spans_of ps)
-  plain-taken [] = omega arith
-  plain-taken (x ∷ xs) = let rest = plain-taken xs in omega arith
+  plain_taken : (xs : List ℕ) → taken_by (spans_of (plain xs ++ ps)) ≡ length xs + taken_by (spans_of ps)
+  plain_taken [] = omega arith
+  plain_taken (x ∷ xs) = let rest = plain_taken xs in omega arith
 
-  plain-shown : (xs : List ℕ) → shown_by (spans_of (plain xs ++ ps)) ≡ length xs + shown_by (spans_of ps)
-  plain-shown [] = omega arith
-  plain-shown (x ∷ xs) = let rest = plain-shown xs in omega arith
+  plain_shown : (xs : List ℕ) → shown_by (spans_of (plain xs ++ ps)) ≡ length xs + shown_by (spans_of ps)
+  plain_shown [] = omega arith
+  plain_shown (x ∷ xs) = let rest = plain_shown xs in omega arith
 
   pub plain_text : (xs : List ℕ) → shown_text (plain xs ++ ps) ≡ xs ++ shown_text ps
   plain_text [] = refl
@@ -56,28 +56,28 @@ abbrev pub onward : Mark → List Mark → ℕ → List ℕ → List Piece
 onward m ms p xs = piece_of m ∷ laid (past m) ms (drop m.takes (drop (m.at - p) xs))
 
 laid_shows : (ms : List Mark) (p n : ℕ) (xs : List ℕ) → Placed p ms n → all_show (spans_of (laid p ms xs)) ≡ true
-laid_shows [] p n xs h = ap (λ z. all_show (spans_of z)) (sym (plain_alone xs)) ∙ plain-shows [] xs
+laid_shows [] p n xs h = ap (λ z. all_show (spans_of z)) (sym (plain_alone xs)) ∙ plain_shows [] xs
 laid_shows (m ∷ ms) p n xs h =
     let rest = laid_shows ms (past m) n (drop m.takes (drop (m.at - p) xs)) h.2 in
-    let here = plain-shows (onward m ms p xs) (take (m.at - p) xs) in
+    let here = plain_shows (onward m ms p xs) (take (m.at - p) xs) in
     let some = h.1 in
     grind (arith, nat_tests)
 
 pub laid_taken : (ms : List Mark) (p n : ℕ) (xs : List ℕ) → Placed p ms n → n ≡ p + length xs → taken_by (spans_of (laid p ms xs)) ≡ length xs
-laid_taken [] p n xs h e = omega (arith, ap (λ z. taken_by (spans_of z)) (plain_alone xs), plain-taken [] xs)
+laid_taken [] p n xs h e = omega (arith, ap (λ z. taken_by (spans_of z)) (plain_alone xs), plain_taken [] xs)
 laid_taken (m ∷ ms) p n xs h e =
     let behind = length-behind m ms p n xs h.0 h.2 e in
     let ahead = length-ahead m ms p n xs h.0 h.2 e in
     let rest = laid_taken ms (past m) n (drop m.takes (drop (m.at - p) xs)) h.2 behind in
-    omega (arith, plain-taken (onward m ms p xs) (take (m.at - p) xs))
+    omega (arith, plain_taken (onward m ms p xs) (take (m.at - p) xs))
 
 laid_shown : (ms : List Mark) (p n : ℕ) (xs : List ℕ) → Placed p ms n → n ≡ p + length xs → shown_by (spans_of (laid p ms xs)) + taken_in ms ≡ length xs + shown_in ms
-laid_shown [] p n xs h e = omega (arith, ap (λ z. shown_by (spans_of z)) (plain_alone xs), plain-shown [] xs)
+laid_shown [] p n xs h e = omega (arith, ap (λ z. shown_by (spans_of z)) (plain_alone xs), plain_shown [] xs)
 laid_shown (m ∷ ms) p n xs h e =
     let behind = length-behind m ms p n xs h.0 h.2 e in
     let ahead = length-ahead m ms p n xs h.0 h.2 e in
     let rest = laid_shown ms (past m) n (drop m.takes (drop (m.at - p) xs)) h.2 behind in
-    omega (arith, plain-shown (onward m ms p xs) (take (m.at - p) xs))
+    omega (arith, plain_shown (onward m ms p xs) (take (m.at - p) xs))
 
 -- how long the text above a part of a text is
 pub length-laid : (ms : List Mark) (p n : ℕ) (xs : List ℕ) → Placed p ms n → n ≡ p + length xs → length (shown_text (laid p ms xs)) + taken_in ms ≡ length xs + shown_in ms
@@ -134,14 +134,14 @@ laid_cut (m ∷ a) b p c k n xs e ha hb en =
     let q : ℕ = c - past m in
     let behind : n ≡ past m + length (drop m.takes (drop j xs)) = omega (arith, length-drop m.takes (drop j xs), length-drop j xs) in
     let rest = laid_cut a b (past m) c q n (drop m.takes (drop j xs)) (omega arith) ha.2 hb behind in
-    let k-is : k ≡ j + (m.takes + q) = omega arith in
-    let k-was : (j + m.takes) + q ≡ k = omega arith in
+    let k_is : k ≡ j + (m.takes + q) = omega arith in
+    let k_was : (j + m.takes) + q ≡ k = omega arith in
     let e₁ : take j xs ≡ take j (take k xs) = sym (take-take j k xs (omega arith)) in
     let e₂ : take q (drop m.takes (drop j xs)) ≡ drop m.takes (drop j (take k xs)) =
-    sym (ap (λ z. drop m.takes (drop j (take z xs))) k-is
+    sym (ap (λ z. drop m.takes (drop j (take z xs))) k_is
     ∙ ap (drop m.takes) (drop-take j (m.takes + q) xs) ∙ drop-take m.takes q (drop j xs)) in
     let e₃ : drop q (drop m.takes (drop j xs)) ≡ drop k xs =
-    ap (drop q) (drop-drop m.takes j xs) ∙ drop-drop q (j + m.takes) xs ∙ ap (λ z. drop z xs) k-was in
+    ap (drop q) (drop-drop m.takes j xs) ∙ drop-drop q (j + m.takes) xs ∙ ap (λ z. drop z xs) k_was in
     ap (λ z. plain (take j xs) ++ (piece_of m ∷ z)) rest
     ∙ ap (λ z. plain z ++ (piece_of m ∷ (laid (past m) a (take q (drop m.takes (drop j xs))) ++ laid c b (drop q (drop m.takes (drop j xs)))))) e₁
     ∙ ap (λ z. plain (take j (take k xs)) ++ (piece_of m ∷ (laid (past m) a z ++ laid c b (drop q (drop m.takes (drop j xs)))))) e₂

@@ -41,17 +41,17 @@ none_higher s o p N (m ∷ ms) h l = let rest = none_higher s o (past m) N ms h.
 
 -- one mark more, which is dropped or not
 module _ (s o : ℕ) (m : Mark) (ms : List Mark) where
-  lowest-in : s < past m → m.at < s + o → lowest s o (m ∷ ms) ≡ min m.at (lowest s o ms)
-  lowest-in h l = grind (arith, nat_tests)
+  lowest_in : s < past m → m.at < s + o → lowest s o (m ∷ ms) ≡ min m.at (lowest s o ms)
+  lowest_in h l = grind (arith, nat_tests)
 
-  lowest-out : (past m ≤ s) ⊎ (s + o ≤ m.at) → lowest s o (m ∷ ms) ≡ lowest s o ms
-  lowest-out h = grind (arith, nat_tests)
+  lowest_out : (past m ≤ s) ⊎ (s + o ≤ m.at) → lowest s o (m ∷ ms) ≡ lowest s o ms
+  lowest_out h = grind (arith, nat_tests)
 
-  highest-in : s < past m → m.at < s + o → highest s o (m ∷ ms) ≡ max (past m) (highest s o ms)
-  highest-in h l = grind (arith, nat_tests)
+  highest_in : s < past m → m.at < s + o → highest s o (m ∷ ms) ≡ max (past m) (highest s o ms)
+  highest_in h l = grind (arith, nat_tests)
 
-  highest-out : (past m ≤ s) ⊎ (s + o ≤ m.at) → highest s o (m ∷ ms) ≡ highest s o ms
-  highest-out h = grind (arith, nat_tests)
+  highest_out : (past m ≤ s) ⊎ (s + o ≤ m.at) → highest s o (m ∷ ms) ≡ highest s o ms
+  highest_out h = grind (arith, nat_tests)
 
 behind_parts : (s o q N : ℕ) (ms : List Mark) → Placed q ms N → s < q → s + o ≤ N
     → Placed q (begun (s + o) ms) (max q (highest s o ms)) × Placed (max q (highest s o ms)) (unbegun (s + o) ms) N
@@ -60,7 +60,7 @@ behind_parts s o q N (m ∷ ms) h l f = ⊎_elim
     (λ (b : m.at < s + o).
     let rest = behind_parts s o (past m) N ms h.2 (omega arith) f in
     let over : s < past m = omega arith in
-    let e : max q (highest s o (m ∷ ms)) ≡ max (past m) (highest s o ms) = omega (arith, highest-in s o m ms over b) in
+    let e : max q (highest s o (m ∷ ms)) ≡ max (past m) (highest s o ms) = omega (arith, highest_in s o m ms over b) in
     rw (begun_in, unbegun_in, e) ((h.0, h.1, rest.0), rest.1))
     (λ (b : s + o ≤ m.at).
     let e : highest s o (m ∷ ms) ≡ s + o = none_higher s o (s + o) N (m ∷ ms) (b, h.1, h.2) (omega arith) in
@@ -79,16 +79,16 @@ parts s o p N (m ∷ ms) h l f = ⊎_elim
     (λ (over : s < past m). ⊎_elim
     (λ (b : m.at < s + o).
     let rest = behind_parts s o (past m) N ms h.2 over f in
-    let e₁ : lowest s o (m ∷ ms) ≡ min m.at s = lowest-in s o m ms over b ∙ ap (min m.at) (none_lower s o (past m) N ms h.2 (omega arith)) in
-    let e₂ : highest s o (m ∷ ms) ≡ max (past m) (highest s o ms) = highest-in s o m ms over b in
+    let e₁ : lowest s o (m ∷ ms) ≡ min m.at s = lowest_in s o m ms over b ∙ ap (min m.at) (none_lower s o (past m) N ms h.2 (omega arith)) in
+    let e₂ : highest s o (m ∷ ms) ≡ max (past m) (highest s o ms) = highest_in s o m ms over b in
     record {
       stay = rw (ended_out, e₁) (omega arith);
       drop = rw (unended_out, begun_in, e₁, e₂) (omega arith, h.1, rest.0);
       move = rw (unended_out, unbegun_in, e₂) rest.1;
     })
     (λ (b : s + o ≤ m.at).
-    let e₁ : lowest s o (m ∷ ms) ≡ s = lowest-out s o m ms (inr b) ∙ none_lower s o (past m) N ms h.2 (omega arith) in
-    let e₂ : highest s o (m ∷ ms) ≡ s + o = highest-out s o m ms (inr b) ∙ none_higher s o (past m) N ms h.2 (omega arith) in
+    let e₁ : lowest s o (m ∷ ms) ≡ s = lowest_out s o m ms (inr b) ∙ none_lower s o (past m) N ms h.2 (omega arith) in
+    let e₂ : highest s o (m ∷ ms) ≡ s + o = highest_out s o m ms (inr b) ∙ none_higher s o (past m) N ms h.2 (omega arith) in
     record {
       stay = rw (ended_out, e₁) l;
       drop = rw (unended_out, begun_out, e₁, e₂) (omega arith);
@@ -97,8 +97,8 @@ parts s o p N (m ∷ ms) h l f = ⊎_elim
     (cases_lt m.at (s + o)))
     (λ (within : past m ≤ s).
     let rest = parts s o (past m) N ms h.2 within f in
-    let e₁ = lowest-out s o m ms (inl within) in
-    let e₂ = highest-out s o m ms (inl within) in
+    let e₁ = lowest_out s o m ms (inl within) in
+    let e₂ = highest_out s o m ms (inl within) in
     record {
       stay = rw (ended_in, e₁) (h.0, h.1, rest.stay);
       drop = rw (unended_in, e₁, e₂) rest.drop;

@@ -47,7 +47,7 @@ hint_put m ms xs g h t s l =
     let a : List Mark = ended m.at ms in
     let b : List Mark = unended m.at ms in
     let at : ℕ = last_of (under_by (spans_of (laid 0 ms xs))) (length (shown_text (laid 0 ms xs))) m.at in
-    let at-is : last_by 0 ms m.at ≡ at = last_is ms xs h m.at l in
+    let at_is : last_by 0 ms m.at ≡ at = last_is ms xs h m.at l in
     let cut = last_cut a b 0 m.at (ended_placed m.at 0 N ms h (omega arith)) (light_beyond m.at ms g) in
     let e : last_by 0 (a ++ b) m.at ≡ last_by 0 ms m.at = ap (λ z. last_by 0 z m.at) (ended_split m.at ms) in
     subst (λ z. Keeps (shown_text (laid 0 ms xs)) (shown_text (laid 0 (put m ms) xs)) at z (length m.shows)) t
@@ -63,7 +63,7 @@ fold_put m ms xs g h s hb =
     let b : List Mark = unended m.at ms in
     let at : ℕ = first_of (under_by (spans_of (laid 0 ms xs))) (length (shown_text (laid 0 ms xs))) m.at in
     let le = placed_le b (past m) N hb in
-    let at-is : first_by 0 ms m.at ≡ at = first_is ms xs h m.at (omega arith) in
+    let at_is : first_by 0 ms m.at ≡ at = first_is ms xs h m.at (omega arith) in
     let solid = solid_parts a b (subst Solid (sym (ended_split m.at ms)) g) in
     let ha = ended_placed m.at 0 N ms h (omega arith) in
     let cut = first_cut a b 0 m.at N ha (solid_before a 0 m.at ha solid.0) (placed_from b m.at (past m) N hb (omega arith)) in
@@ -91,7 +91,7 @@ mark_out a b m xs h before =
     let parts = placed_parts a b m 0 N h in
     let at : ℕ = first_of (under_by (spans_of (laid 0 (a ++ (m ∷ b)) xs))) (length (shown_text (laid 0 (a ++ (m ∷ b)) xs))) m.at in
     let le = placed_le b (past m) N parts.2 in
-    let at-is : first_by 0 (a ++ (m ∷ b)) m.at ≡ at = first_is (a ++ (m ∷ b)) xs h m.at (omega arith) in
+    let at_is : first_by 0 (a ++ (m ∷ b)) m.at ≡ at = first_is (a ++ (m ∷ b)) xs h m.at (omega arith) in
     let cut = first_cut a (m ∷ b) 0 m.at N parts.0 before (omega arith, parts.1, parts.2) in
     out_keeps a b m xs parts.0 parts.1 parts.2 at (omega arith)
 

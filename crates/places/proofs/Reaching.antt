@@ -34,13 +34,13 @@ first_start [] = refl
 first_start (p ∷ ps) = refl
 
 module _ (ps : List Piece) where
-  plain-first : (xs : List ℕ) (d : ℕ) → walk_first (spans_of (plain xs ++ ps)) d ≡ cond (ltb (length xs) d) (length xs + walk_first (spans_of ps) (d - length xs)) d
-  plain-first [] d = let none = first_start ps in grind (arith, nat_tests, ap (walk_first (spans_of ps)) (sub-zero d))
-  plain-first (x ∷ xs) d = let rest = plain-first xs (d - 1) in grind (arith, nat_tests)
+  plain_first : (xs : List ℕ) (d : ℕ) → walk_first (spans_of (plain xs ++ ps)) d ≡ cond (ltb (length xs) d) (length xs + walk_first (spans_of ps) (d - length xs)) d
+  plain_first [] d = let none = first_start ps in grind (arith, nat_tests, ap (walk_first (spans_of ps)) (sub-zero d))
+  plain_first (x ∷ xs) d = let rest = plain_first xs (d - 1) in grind (arith, nat_tests)
 
-  plain-last : (xs : List ℕ) (d : ℕ) → walk_last (spans_of (plain xs ++ ps)) d ≡ cond (ltb d (length xs)) d (length xs + walk_last (spans_of ps) (d - length xs))
-  plain-last [] d = grind (arith, nat_tests)
-  plain-last (x ∷ xs) d = let rest = plain-last xs (d - 1) in grind (arith, nat_tests)
+  plain_last : (xs : List ℕ) (d : ℕ) → walk_last (spans_of (plain xs ++ ps)) d ≡ cond (ltb d (length xs)) d (length xs + walk_last (spans_of ps) (d - length xs))
+  plain_last [] d = grind (arith, nat_tests)
+  plain_last (x ∷ xs) d = let rest = plain_last xs (d - 1) in grind (arith, nat_tests)
 
 laid_first : (ms : List Mark) (p n : ℕ) (xs : List ℕ) → Placed p ms n → n ≡ p + length xs → (d : ℕ) → d ≤ n → walk_first (spans_of (laid p ms xs)) (d - p) ≡ first_by p ms d
 laid_first [] p n xs h e d l = all_first xs (d - p) (omega arith)
@@ -49,7 +49,7 @@ laid_first (m ∷ ms) p n xs h e d l =
     let ahead = length-ahead m ms p n xs h.0 h.2 e in
     let left : List ℕ = drop m.takes (drop (m.at - p) xs) in
     let rest = laid_first ms (past m) n left h.2 behind d l in
-    let here = plain-first (onward m ms p xs) (take (m.at - p) xs) (d - p) in
+    let here = plain_first (onward m ms p xs) (take (m.at - p) xs) (d - p) in
     let at : d - p - (m.at - p) - m.takes ≡ d - past m = omega arith in
     let same = ap (walk_first (spans_of (laid (past m) ms left))) at in
     grind (arith, nat_tests)
@@ -61,7 +61,7 @@ laid_last (m ∷ ms) p n xs h e d l b =
     let ahead = length-ahead m ms p n xs h.0 h.2 e in
     let left : List ℕ = drop m.takes (drop (m.at - p) xs) in
     let rest = laid_last ms (past m) n left h.2 behind d l in
-    let here = plain-last (onward m ms p xs) (take (m.at - p) xs) (d - p) in
+    let here = plain_last (onward m ms p xs) (take (m.at - p) xs) (d - p) in
     let at : d - p - (m.at - p) - m.takes ≡ d - past m = omega arith in
     let same = ap (walk_last (spans_of (laid (past m) ms left))) at in
     grind (arith, nat_tests)

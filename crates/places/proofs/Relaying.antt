@@ -12,9 +12,9 @@ use Rattle.places.proofs.Keeping.{parts_keep}
 
 -- marks up to s, from there up to s + o, and behind that: the text above in three parts
 module _ (a d b : List Mark) (xs : List ℕ) (s o : ℕ) (ha : Placed 0 a s) (hd : Placed s d (s + o)) (hb : Placed (s + o) b (length xs)) where
-  text-cut : shown_text (laid 0 (a ++ (d ++ b)) xs)
+  text_cut : shown_text (laid 0 (a ++ (d ++ b)) xs)
       ≡ shown_text (laid 0 a (take s xs)) ++ (shown_text (laid s d (take o (drop s xs))) ++ shown_text (laid (s + o) b (drop (s + o) xs)))
-  text-cut =
+  text_cut =
       let N : ℕ = length xs in
       let le = placed_le b (s + o) N hb in
       let long : N ≡ s + length (drop s xs) = omega (arith, length-drop s xs) in
@@ -31,8 +31,8 @@ module _ (a d b : List Mark) (xs : List ℕ) (s o : ℕ) (ha : Placed 0 a s) (hd
       let long : s ≡ 0 + length (take s xs) = omega (arith, length-take s xs) in
       omega (arith, length-laid a 0 s (take s xs) ha long)
 
-  middle-length : (i : ℕ) → i + taken_in d ≡ o + shown_in d → length (shown_text (laid s d (take o (drop s xs)))) ≡ i
-  middle-length i e =
+  middle_length : (i : ℕ) → i + taken_in d ≡ o + shown_in d → length (shown_text (laid s d (take o (drop s xs)))) ≡ i
+  middle_length i e =
       let le = placed_le b (s + o) (length xs) hb in
       let long : s + o ≡ s + length (take o (drop s xs)) = omega (arith, length-take o (drop s xs), length-drop s xs) in
       omega (arith, length-laid d s (s + o) (take o (drop s xs)) hd long)
@@ -49,15 +49,15 @@ relaid_keeps a d e b xs ys s o n ha hd he hb hm kept i j k ei ej ek =
     let old : List ℕ = shown_text (laid s d (take o (drop s xs))) in
     let new : List ℕ = shown_text (laid s e (take n (drop s ys))) in
     let back : List ℕ = shown_text (laid (s + o) b (drop (s + o) xs)) in
-    let before : shown_text (laid 0 (a ++ (d ++ b)) xs) ≡ front ++ (old ++ back) = text-cut a d b xs s o ha hd hb in
+    let before : shown_text (laid 0 (a ++ (d ++ b)) xs) ≡ front ++ (old ++ back) = text_cut a d b xs s o ha hd hb in
     let same : shown_text (laid (s + n) c (drop (s + n) ys)) ≡ back =
     ap (λ z. shown_text (laid (s + n) c z)) kept.back
     ∙ ap shown_text (laid_moved b (s + o) (s + n) o n (length xs) (drop (s + o) xs) (omega arith) (omega arith) hb) in
     let after : shown_text (laid 0 (a ++ (e ++ c)) ys) ≡ front ++ (new ++ back) =
-    text-cut a e c ys s n ha he hm
+    text_cut a e c ys s n ha he hm
     ∙ ap (λ z. shown_text (laid 0 a z) ++ (new ++ shown_text (laid (s + n) c (drop (s + n) ys)))) kept.front
     ∙ ap (λ z. front ++ (new ++ z)) same in
     let li : length front ≡ i = front_length a d b xs s o ha hd hb i ei in
-    let lj : length old ≡ j = middle-length a d b xs s o ha hd hb j ej in
-    let lk : length new ≡ k = middle-length a e c ys s n ha he hm k ek in
+    let lj : length old ≡ j = middle_length a d b xs s o ha hd hb j ej in
+    let lk : length new ≡ k = middle_length a e c ys s n ha he hm k ek in
     rw (before, after, ← li, ← lj, ← lk) (parts_keep front old new back)

@@ -43,8 +43,8 @@ last_from [] u d h l = h
 last_from (p ∷ ps) u d h l = let rest = last_from ps (u - p.shows) (d - p.takes) (omega arith) in grind (arith, nat_tests)
 
 module _ (ps : List Span) (t n : ℕ) (r : Rewrites ps t n) where
-  walks-find : Finds (under_by ps) (walk_first ps) (walk_last ps) t n
-  walks-find = record {
+  walks_find : Finds (under_by ps) (walk_first ps) (walk_last ps) t n
+  walks_find = record {
     map = rewrites_rises ps t n r;
     first_in = λ d _. omega (arith, first_in ps d);
     last_in = λ d _. omega (arith, last_in ps d);
@@ -53,7 +53,7 @@ module _ (ps : List Span) (t n : ℕ) (r : Rewrites ps t n) where
   }
 
   pub walk_first_is : (d : ℕ) → d ≤ n → walk_first ps d ≡ first_of (under_by ps) t d
-  walk_first_is d h = first_found walks-find d h
+  walk_first_is d h = first_found walks_find d h
 
   pub walk_last_is : (d : ℕ) → d ≤ n → walk_last ps d ≡ last_of (under_by ps) t d
-  walk_last_is d h = last_found walks-find d h
+  walk_last_is d h = last_found walks_find d h

@@ -71,8 +71,8 @@ module _ (ms : List Mark) (xs : List ℕ) (h : Counted ms xs) where
     first_small : first_over ms xs l < 4294967296
     first_small = omega (arith, finds.first_in l inside, h.2)
 
-    last-small : last_over ms xs l < 4294967296
-    last-small = omega (arith, finds.last_in l inside, h.2)
+    last_small : last_over ms xs l < 4294967296
+    last_small = omega (arith, finds.last_in l inside, h.2)
 
     pub first_by : (n base shown taken r : ℕ) → n ≡ prefix_len (λ m. ltb m.at l) ms → base ≡ max (end_by 0 (take n ms)) l
         → shown ≡ shown_in (take n ms) → taken ≡ taken_in (take n ms)
@@ -93,7 +93,7 @@ module _ (ms : List Mark) (xs : List ℕ) (h : Counted ms xs) where
           let sum = last_sum ms xs h.0 n begun l inside
           (λ m q. let no = leading_no (λ (m : Mark). leb m.at l) ms n m found q in grind (arith, nat_tests))
           (omega arith) in
-          counts (last_over ms xs l) last-small (omega arith)
+          counts (last_over ms xs l) last_small (omega arith)
 
       pub last_by_inside : (less r : ℕ) → l < end → (taken < 4294967296 → less ≡ taken + 1)
           → ((m : ℕ) → m < 4294967296 → m + less ≡ end + shown → r ≡ m) → r ≡ last_over ms xs l
@@ -102,25 +102,25 @@ module _ (ms : List Mark) (xs : List ℕ) (h : Counted ms xs) where
           (λ k m q. let yes = leading_yes (λ (m : Mark). leb m.at l) ms k m (omega arith) in grind (arith, nat_tests))
           (omega arith) in
           let few : taken < 4294967296 = omega (arith, taken_front ms n, placed_room ms 0 (length xs) h.0, h.1) in
-          counts (last_over ms xs l) last-small (omega (arith, one few))
+          counts (last_over ms xs l) last_small (omega (arith, one few))
 
 -- a record read at i, and the test whether it begins by u
 module _ {R : Type 0} (mark : R → Mark) (rs : List R) (u i place : ℕ) (x : R) (l : i < length rs) (read : x ≡ get_or rs i x) (p : place ≡ (mark x).at) where
-  record-at : (e : Mark) → (get_or (map mark rs) i e).at ≡ place
-  record-at e = ap (λ (m : Mark). m.at) (get_or-map mark rs i x e l ∙ ap mark (sym read)) ∙ sym p
+  record_at : (e : Mark) → (get_or (map mark rs) i e).at ≡ place
+  record_at e = ap (λ (m : Mark). m.at) (get_or-map mark rs i x e l ∙ ap mark (sym read)) ∙ sym p
 
   pub begun_on : leb (place + shown_in (map mark (take i rs))) (u + taken_in (map mark (take i rs))) ≡ true
       → (k : ℕ) (e : Mark) → k + 1 ≡ i + 1 → (get_or (map mark rs) k e).at + shown_in (take k (map mark rs)) ≤ u + taken_in (take k (map mark rs))
   begun_on fits k e q =
       let here : (get_or (map mark rs) i e).at + shown_in (take i (map mark rs)) ≤ u + taken_in (take i (map mark rs)) =
-      (let a = record-at e in let s = ap shown_in (take-map mark i rs) in let t = ap taken_in (take-map mark i rs) in grind (arith, nat_tests)) in
+      (let a = record_at e in let s = ap shown_in (take-map mark i rs) in let t = ap taken_in (take-map mark i rs) in grind (arith, nat_tests)) in
       let same : i ≡ k = omega arith in
       subst (λ (z : ℕ). (get_or (map mark rs) z e).at + shown_in (take z (map mark rs)) ≤ u + taken_in (take z (map mark rs))) same here
 
   pub begun_here : leb (place + shown_in (map mark (take i rs))) (u + taken_in (map mark (take i rs))) ≡ false
       → (e : Mark) → u + taken_in (take i (map mark rs)) < (get_or (map mark rs) i e).at + shown_in (take i (map mark rs))
   begun_here past e =
-      let a = record-at e in
+      let a = record_at e in
       let s = ap shown_in (take-map mark i rs) in
       let t = ap taken_in (take-map mark i rs) in
       grind (arith, nat_tests)
@@ -175,30 +175,30 @@ module _ (ms : List Mark) (xs : List ℕ) (h : Counted ms xs) (u n : ℕ) (small
 -- the same of records, by what code has of them
 module _ {R : Type 0} (mark : R → Mark) (rs : List R) (u n : ℕ) (small : u < 4294967296) (few : n ≤ length rs) (cut : Begun (map mark rs) u n)
     (xs : List ℕ) (inside : u ≤ length (text_over (map mark rs) xs)) (h : Counted (map mark rs) xs) where
-  begun-few : n ≤ length (map mark rs)
-  begun-few = omega (arith, length-map rs mark)
+  begun_few : n ≤ length (map mark rs)
+  begun_few = omega (arith, length-map rs mark)
 
   module _ (i : ℕ) (x : R) (place shown taken start : ℕ) (last : i + 1 ≡ n) (read : x ≡ get_or rs i x) (p : place ≡ (mark x).at)
       (s : shown ≡ shown_in (map mark (take i rs))) (t : taken ≡ taken_in (map mark (take i rs)))
       (counts : (z : ℕ) → z < 4294967296 → z + taken ≡ place + shown → start ≡ z) where
-    mark-read : mark x ≡ get_or (map mark rs) i (mark x)
-    mark-read = ap mark read ∙ sym (get_or-map mark rs i x (mark x) (omega arith))
+    mark_read : mark x ≡ get_or (map mark rs) i (mark x)
+    mark_read = ap mark read ∙ sym (get_or-map mark rs i x (mark x) (omega arith))
 
     pub shown_over : (offset : ℕ) → offset ≡ u - start → offset < length (mark x).shows → Holds (map mark rs) xs u (Shown i offset)
     shown_over =
-        shown_by (map mark rs) xs h u n small inside begun-few cut i (mark x) place shown taken start last mark-read p
+        shown_by (map mark rs) xs h u n small inside begun_few cut i (mark x) place shown taken start last mark_read p
         (shown_first mark rs rs refl i shown s) (taken_first mark rs rs refl i taken t) counts
 
     pub ends_over : length (mark x).shows ≤ u - start → end_by 0 (take n (map mark rs)) + shown_in (take n (map mark rs)) ≤ u + taken_in (take n (map mark rs))
     ends_over =
-        ends_by (map mark rs) xs h u n small inside begun-few cut i (mark x) place shown taken start last mark-read p
+        ends_by (map mark rs) xs h u n small inside begun_few cut i (mark x) place shown taken start last mark_read p
         (shown_first mark rs rs refl i shown s) (taken_first mark rs rs refl i taken t) counts
 
   pub below_over : (shown taken r : ℕ) → shown ≡ shown_in (map mark (take n rs)) → taken ≡ taken_in (map mark (take n rs))
       → ((z : ℕ) → z < 4294967296 → z + shown ≡ u + taken → r ≡ z)
       → end_by 0 (take n (map mark rs)) + shown_in (take n (map mark rs)) ≤ u + taken_in (take n (map mark rs)) → Holds (map mark rs) xs u (Below r)
   below_over shown taken r s t counts =
-      below_by (map mark rs) xs h u n small inside begun-few cut shown taken r (shown_first mark rs rs refl n shown s) (taken_first mark rs rs refl n taken t) counts
+      below_by (map mark rs) xs h u n small inside begun_few cut shown taken r (shown_first mark rs rs refl n shown s) (taken_first mark rs rs refl n taken t) counts
 
 -- no mark shows or takes anything before the first one
 pub ends_none : (ms : List Mark) (u n : ℕ) → n ≡ 0 → end_by 0 (take n ms) + shown_in (take n ms) ≤ u + taken_in (take n ms)

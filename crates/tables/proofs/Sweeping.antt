@@ -37,11 +37,11 @@ pub record Swept {R : Type 0} (mark : R → Mark) (c : Change) (old new : List R
 
 -- what lies ahead of a sweep is as it was
 module _ {X : Type 0} (old new : List X) (i : ℕ) (same : drop i new ≡ drop i old) where
-  next-ahead : drop (i + 1) new ≡ drop (i + 1) old
-  next-ahead = sym (drop-drop 1 i new) ∙ ap (drop 1) same ∙ drop-drop 1 i old
+  next_ahead : drop (i + 1) new ≡ drop (i + 1) old
+  next_ahead = sym (drop-drop 1 i new) ∙ ap (drop 1) same ∙ drop-drop 1 i old
 
-  read-ahead : (d : X) → get_or new i d ≡ get_or old i d
-  read-ahead d =
+  read_ahead : (d : X) → get_or new i d ≡ get_or old i d
+  read_ahead d =
       ap (λ (z : ℕ). get_or new z d) (sym (add-zero i))
       ∙ sym (get_or-drop i new 0 d)
       ∙ ap (λ (z : List X). get_or z 0 d) same
@@ -54,16 +54,16 @@ module _ {R : Type 0} (mark : R → Mark) (c : Change) (old new : List R) (count
   step =
       let inside : i < length (take count old) = omega (arith, length-take count old) in
       ap (λ (z : List R). after_of c (map mark z)) (drop_more (take count old) i d inside)
-      ∙ ap (λ (z : R). after_of c (mark z ∷ map mark (drop (i + 1) (take count old)))) (get_or-take count old i d in_count ∙ sym (read-ahead old new i s.ahead d))
+      ∙ ap (λ (z : R). after_of c (mark z ∷ map mark (drop (i + 1) (take count old)))) (get_or-take count old i d in_count ∙ sym (read_ahead old new i s.ahead d))
 
-  ahead-set : (y : R) → drop (i + 1) (set new i y) ≡ drop (i + 1) old
-  ahead-set y = drop-set-lt (i + 1) new i y (omega arith) ∙ next-ahead old new i s.ahead
+  ahead_set : (y : R) → drop (i + 1) (set new i y) ≡ drop (i + 1) old
+  ahead_set y = drop-set-lt (i + 1) new i y (omega arith) ∙ next_ahead old new i s.ahead
 
   lost : (y : R) → lives c (mark (get_or new i d)) ≡ false → Swept mark c old (set new i y) count kept (i + 1)
   lost y e = record {
     within = omega (arith, s.within);
     long = length-set new i y ∙ s.long;
-    ahead = ahead-set y;
+    ahead = ahead_set y;
     done =
         ap (λ (z : List R). map mark z ++ after_of c (map mark (drop (i + 1) (take count old)))) (take-set-le kept new i y s.within)
         ∙ ap (λ (z : List Mark). map mark (take kept new) ++ z) (sym (step ∙ gone_first c (mark (get_or new i d)) (map mark (drop (i + 1) (take count old))) e))
@@ -77,7 +77,7 @@ module _ {R : Type 0} (mark : R → Mark) (c : Change) (old new : List R) (count
       record {
         within = omega (arith, s.within);
         long = length-set (set new i y) kept y ∙ length-set new i y ∙ s.long;
-        ahead = drop-set-lt (i + 1) (set new i y) kept y (omega (arith, s.within)) ∙ ahead-set y;
+        ahead = drop-set-lt (i + 1) (set new i y) kept y (omega (arith, s.within)) ∙ ahead_set y;
         done =
             ap (λ (z : List R). map mark z ++ more) (take_more_set (set new i y) kept y room ∙ ap (λ (z : List R). z ++ (y ∷ [])) (take-set-le kept new i y s.within))
             ∙ ap (λ (z : List Mark). z ++ more) (map-append mark (take kept new) (y ∷ []))
@@ -112,5 +112,5 @@ pub room_ahead : {R : Type 0} (mark : R → Mark) (c : Change) (old new : List R
 room_ahead {R} mark c old new count i d same inside all =
     let in_marks : i < length (map mark (take count old)) = omega (arith, length-map (take count old) mark) in
     let in_count : i < count = omega (arith, length-take count old) in
-    let at : get_or (map mark (take count old)) i (mark d) ≡ mark (get_or new i d) = get_or-map mark (take count old) i d (mark d) inside ∙ ap mark (get_or-take count old i d in_count ∙ sym (read-ahead old new i same d)) in
+    let at : get_or (map mark (take count old)) i (mark d) ≡ mark (get_or new i d) = get_or-map mark (take count old) i d (mark d) inside ∙ ap mark (get_or-take count old i d in_count ∙ sym (read_ahead old new i same d)) in
     subst (Room c) at (All-get_or (Room c) (map mark (take count old)) i (mark d) in_marks all)

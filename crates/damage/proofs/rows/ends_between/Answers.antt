@@ -23,8 +23,8 @@ loop-i-preserved g c =
     let count = c.loop-i.invariant.1 in
     elim c.if-is_row_end.branch [
       | then-is_row_end w ↦
-          let is-end : is_row_end (get_or t i 0) ≡ true = ap is_row_end (sym c.code_at.ensures) ∙ sym w.if-is_row_end.ensures in
-          (omega arith, omega (arith, w.ends-is, ends_here t i inside is-end))
+          let is_end : is_row_end (get_or t i 0) ≡ true = ap is_row_end (sym c.code_at.ensures) ∙ sym w.if-is_row_end.ensures in
+          (omega arith, omega (arith, w.ends-is, ends_here t i inside is_end))
       | else-is_row_end w ↦
           let no_end : is_row_end (get_or t i 0) ≡ false = ap is_row_end (sym c.code_at.ensures) ∙ sym w.if-is_row_end.ensures in
           (omega arith, omega (arith, w.ends-is, ends_same t i inside no_end))

@@ -159,7 +159,7 @@ returns-in-Ok-order g c =
     let does = c.in-Ok-order.ensures in
     let has = g.met.K.Kind.speaks c.args.self.now.kind o.verb ∙ sym c.has_verb.ensures ∙ c.if-not-has_verb.false in
     let up = sym s.knows ∙ c.if-not-self.false in
-    let zero-k : 0 ≡ c.args.k = omega arith in
+    let zero_k : 0 ≡ c.args.k = omega arith in
     let q = g.K.Kind.records c.order-2.new.self in
     record {
       sound = obeyed_sound e v law r _ _ _ s c.if-not-self.false o w q does.0 does.1 c.len-self.result c.len-self.ensures;
@@ -168,8 +168,8 @@ returns-in-Ok-order g c =
         refl,
         refl,
         (
-          ap (λ (z : Records). z ∷ e.stack v) does.1 ∙ ap (λ (n : ℕ). (after_order e.most (r ∷ e.stack v) (e.doc v) n o w).stack) zero-k,
-          does.2 ∙ ap (λ (n : ℕ). (after_order e.most (r ∷ e.stack v) (e.doc v) n o w).change) zero-k,
+          ap (λ (z : Records). z ∷ e.stack v) does.1 ∙ ap (λ (n : ℕ). (after_order e.most (r ∷ e.stack v) (e.doc v) n o w).stack) zero_k,
+          does.2 ∙ ap (λ (n : ℕ). (after_order e.most (r ∷ e.stack v) (e.doc v) n o w).change) zero_k,
           obeyed_text e v law r _ _ _ s c.if-not-self.false o w q does.0 does.1 c.in-Ok-order.change does.2,
         ),
       );
