@@ -1,7 +1,7 @@
 -- Marks about the first that passes a test, marks with one put and marks with one taken out. Assumes nothing.
 use Rattle.std.proofs.Common.{◌≡◌, ℕ, ◌+◌, ◌<◌, ◌≤◌, Bool, true, false, eqb, leb, List, [], ◌∷◌, ◌++◌, length, sym, refl, ap, ◌∙◌, ⊎_elim, arith, length-append}
 use mathlib.Core.Bool.{false≢true}
-use Rattle.std.specs.List.{AllByRecursion as All}
+use Rattle.std.specs.List.{AllByRecursion}
 use Rattle.std.proofs.lemmas.Bool.Decides.{nat_tests}
 use Rattle.std.proofs.lemmas.Bool.{cases_Bool, cond-true, cond-false, cond_both}
 use Rattle.std.proofs.ByRecursion.{All-append}
@@ -10,7 +10,7 @@ use Rattle.places.proofs.Placing.{placed_le}
 use Rattle.view.specs.Orders.{overlaps, some, first_mark, without}
 
 -- where none of the marks passes, each one fails
-pub none_passes : (p : Mark → Bool) (ms : List Mark) → some p ms ≡ false → All (λ m. p m ≡ false) ms
+pub none_passes : (p : Mark → Bool) (ms : List Mark) → some p ms ≡ false → AllByRecursion (λ m. p m ≡ false) ms
 none_passes p [] e = tt
 none_passes p (m ∷ ms) e =
     let here : p m ≡ false = ⊎_elim (λ (y : p m ≡ true). grind (arith, nat_tests)) (λ f. f) (cases_Bool (p m)) in
@@ -23,7 +23,7 @@ pub record Around (p : Mark → Bool) (ms : List Mark) : Type 0 where
   pub whole : before ++ (first_mark p ms ∷ after) ≡ ms
   pub others : before ++ after ≡ without p ms
   pub passes : p (first_mark p ms) ≡ true
-  pub fail : All (λ m. p m ≡ false) before
+  pub fail : AllByRecursion (λ m. p m ≡ false) before
 
 -- where some mark passes, there is a first one
 pub around : (p : Mark → Bool) (ms : List Mark) → some p ms ≡ true → Around p ms
@@ -53,7 +53,7 @@ around p (m ∷ ms) e = ⊎_elim
     (cases_Bool (p m))
 
 -- marks up to a place, none of them at it, are before it
-pub before_place : (ms : List Mark) (p c : ℕ) → Placed p ms c → All (λ m. eqb m.at c ≡ false) ms → All (λ m. m.at < c) ms
+pub before_place : (ms : List Mark) (p c : ℕ) → Placed p ms c → AllByRecursion (λ m. eqb m.at c ≡ false) ms → AllByRecursion (λ m. m.at < c) ms
 before_place [] p c h f = tt
 before_place (m ∷ ms) p c h f =
     let le = placed_le ms (past m) c h.2 in
@@ -61,7 +61,7 @@ before_place (m ∷ ms) p c h f =
     (grind (arith, nat_tests), before_place ms (past m) c h.2 f.1)
 
 -- a mark that overlaps none leaves room for those that do not end by its place
-pub fold_room : (m : Mark) (b : ℕ) (ms : List Mark) (p n : ℕ) → past m ≡ b → m.at < b → b ≤ n → Placed p ms n → All (λ x. overlaps m.at b x ≡ false) ms
+pub fold_room : (m : Mark) (b : ℕ) (ms : List Mark) (p n : ℕ) → past m ≡ b → m.at < b → b ≤ n → Placed p ms n → AllByRecursion (λ x. overlaps m.at b x ≡ false) ms
     → Placed (past m) (unended m.at ms) n
 fold_room m b [] p n e l k h f = omega arith
 fold_room m b (x ∷ ms) p n e l k h f =
@@ -81,22 +81,22 @@ put_length m ms = omega (arith, split_length m.at ms, length-append (ended m.at 
 
 module _ (P : Mark → Type 0) where
   -- what holds of all marks holds of those that end by a place and of the others
-  split_all : (s : ℕ) (ms : List Mark) → All P ms → All P (ended s ms) × All P (unended s ms)
+  split_all : (s : ℕ) (ms : List Mark) → AllByRecursion P ms → AllByRecursion P (ended s ms) × AllByRecursion P (unended s ms)
   split_all s [] h = (tt, tt)
   split_all s (m ∷ ms) h =
       let rest = split_all s ms h.1 in (
-        cond_both (leb (past m) s) (m ∷ ended s ms) [] (All P) (λ _. (h.0, rest.0)) (λ _. tt),
-        cond_both (leb (past m) s) (unended s ms) (m ∷ ms) (All P) (λ _. rest.1) (λ _. h),
+        cond_both (leb (past m) s) (m ∷ ended s ms) [] (AllByRecursion P) (λ _. (h.0, rest.0)) (λ _. tt),
+        cond_both (leb (past m) s) (unended s ms) (m ∷ ms) (AllByRecursion P) (λ _. rest.1) (λ _. h),
       )
 
   -- what holds of all marks and of the one put holds of all after
-  pub put_all : (m : Mark) (ms : List Mark) → P m → All P ms → All P (put m ms)
+  pub put_all : (m : Mark) (ms : List Mark) → P m → AllByRecursion P ms → AllByRecursion P (put m ms)
   put_all m ms here h =
       let parts = split_all m.at ms h in
       All-append P (ended m.at ms) (m ∷ unended m.at ms) parts.0 (here, parts.1)
 
   -- what holds of all marks holds of all but one
-  pub out_all : (a b : List Mark) (m : Mark) → All P (a ++ (m ∷ b)) → All P (a ++ b)
+  pub out_all : (a b : List Mark) (m : Mark) → AllByRecursion P (a ++ (m ∷ b)) → AllByRecursion P (a ++ b)
   out_all [] b m h = h.1
   out_all (x ∷ a) b m h = (h.0, out_all a b m h.1)
 

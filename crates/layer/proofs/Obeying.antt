@@ -1,6 +1,6 @@
 -- An order that a layer obeys: its records stay fit, and its text keeps all but what the change names. Assumes nothing.
 use Rattle.std.proofs.Common.{◌≡◌, ℕ, ◌+◌, ◌<◌, ◌≤◌, Bool, true, false, cond, eqb, List, [], ◌∷◌, ◌++◌, length, Some, None, sym, refl, ◌∙◌, subst, ⊎_elim, arith}
-use Rattle.std.specs.List.{AllByRecursion as All}
+use Rattle.std.specs.List.{AllByRecursion}
 use Rattle.std.proofs.lemmas.List.{drop_all}
 use Rattle.std.proofs.lemmas.Bool.Decides.{nat_tests}
 use Rattle.std.proofs.lemmas.Bool.{cases_Bool, cond-true, cond-false, eqb-true}
@@ -18,7 +18,7 @@ use Rattle.view.specs.Orders.{adds, meets, overlaps, some, first_mark, without, 
 use Rattle.layer.proofs.Marking.{Around, around, none_passes, before_place, fold_room, put_length, put_all, out_length, out_all}
 
 -- where no cause is found, none holds
-no_cause : (cs : List (Bool × Refusal)) → first_cause cs ≡ None → All (λ c. c.0 ≡ false) cs
+no_cause : (cs : List (Bool × Refusal)) → first_cause cs ≡ None → AllByRecursion (λ c. c.0 ≡ false) cs
 no_cause [] e = tt
 no_cause (c ∷ cs) e = ⊎_elim
     (λ (y : c.0 ≡ true). let z : ◌≡◌ {A = ℕ} 0 1 = cc (cond-true c.0 (Some c.1) (first_cause cs) y) in absurd (omega arith))
@@ -41,7 +41,7 @@ Removed k ms xs a =
 
 -- a hint that no cause refuses is put
 hint_added : (ms : List Mark) (xs : List ℕ) (n a b : ℕ) (o : Order) (w : List ℕ) → Fit (hints ms) (length xs) → a ≤ length xs
-    → All (λ c. c.0 ≡ false) (add_causes hint ms n a b o w) → Added hint ms xs a b w
+    → AllByRecursion (λ c. c.0 ≡ false) (add_causes hint ms n a b o w) → Added hint ms xs a b w
 hint_added ms xs n a b o w fit l causes =
     let m : Mark = new_mark hint a b w in
     let size = causes.1.0 in
@@ -60,7 +60,7 @@ hint_added ms xs n a b o w fit l causes =
 
 -- a fold that no cause refuses is put
 fold_added : (ms : List Mark) (xs : List ℕ) (n a b : ℕ) (o : Order) (w : List ℕ) → Fit (folds ms) (length xs) → b ≤ length xs
-    → All (λ c. c.0 ≡ false) (add_causes fold ms n a b o w) → Added fold ms xs a b w
+    → AllByRecursion (λ c. c.0 ≡ false) (add_causes fold ms n a b o w) → Added fold ms xs a b w
 fold_added ms xs n a b o w fit l causes =
     let m : Mark = new_mark fold a b w in
     let bad = causes.1.1.1.0 in
@@ -79,7 +79,7 @@ fold_added ms xs n a b o w fit l causes =
     )
 
 -- one hint less, the first at its place
-hint_less : (x y : List Mark) (m : Mark) (xs : List ℕ) → Fit (hints (x ++ (m ∷ y))) (length xs) → All (λ z. z.at < m.at) x
+hint_less : (x y : List Mark) (m : Mark) (xs : List ℕ) → Fit (hints (x ++ (m ∷ y))) (length xs) → AllByRecursion (λ z. z.at < m.at) x
     → Done hint (x ++ (m ∷ y)) xs (x ++ y) (first (hints (x ++ (m ∷ y))) xs m.at) (length m.shows) m.takes
 hint_less x y m xs fit before = (
   mark_out x y m xs fit.0 before,
@@ -112,7 +112,7 @@ hint_removed ms xs a fit found =
     let y : List Mark = found.after in
     let fits : Fit (hints (x ++ (m ∷ y))) (length xs) = subst (λ z. Fit (hints z) (length xs)) (sym found.whole) fit in
     let here : m.at ≡ a = eqb-true m.at a found.passes in
-    let before = before_place x 0 m.at (placed_parts x y m 0 (length xs) fits.0).0 (subst (λ z. All (λ v. eqb v.at z ≡ false) x) (sym here) found.fail) in
+    let before = before_place x 0 m.at (placed_parts x y m 0 (length xs) fits.0).0 (subst (λ z. AllByRecursion (λ v. eqb v.at z ≡ false) x) (sym here) found.fail) in
     subst (λ z. Done hint ms xs z (first (hints ms) xs m.at) (length m.shows) m.takes) found.others
     (subst (λ z. Done hint z xs (x ++ y) (first (hints z) xs m.at) (length m.shows) m.takes) found.whole (hint_less x y m xs fits before))
 
@@ -128,7 +128,7 @@ fold_removed ms xs a fit found =
 
 -- a mark of either kind that no cause refuses is put
 added : (k : MarkKind) (ms : List Mark) (xs : List ℕ) (n a b : ℕ) (o : Order) (w : List ℕ) → Fit (marks k ms) (length xs) → a ≤ length xs → b ≤ length xs
-    → All (λ c. c.0 ≡ false) (add_causes k ms n a b o w) → Added k ms xs a b w
+    → AllByRecursion (λ c. c.0 ≡ false) (add_causes k ms n a b o w) → Added k ms xs a b w
 added hint ms xs n a b o w fit la lb causes = hint_added ms xs n a b o w fit la causes
 added fold ms xs n a b o w fit la lb causes = fold_added ms xs n a b o w fit lb causes
 

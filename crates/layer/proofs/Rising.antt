@@ -1,7 +1,7 @@
 -- Refusals of the view below, as a layer hands them on. Assumes nothing.
 use Rattle.std.proofs.Common.{◌≡◌, ℕ, zero, suc, ◌+◌, min, Bool, true, false, ltb, List, [], ◌∷◌, length, Some, None, Ok, Err, Option, Result, sym, refl, ap, ◌∙◌, ⊎_elim, arith}
 use Rattle.std.specs.Option.{option_map}
-use Rattle.std.specs.List.{AllByRecursion as All}
+use Rattle.std.specs.List.{AllByRecursion}
 use Rattle.std.proofs.lemmas.Bool.{cond-true, cond-false, cond_both, cases_Bool, lt-ltb, le-ltb, ltb-true, ltb-false}
 use Rattle.buffer.specs.declared.fault.BufferFault.{BufferFault}
 use Rattle.buffer.specs.declared.fault.BufferFault.TheVariants.{PastEnd as BufferPastEnd, EmptyEdit, BadCode as BufferBadCode, NoSpare, TooManyCells}
@@ -74,7 +74,7 @@ abbrev Apart : Option Refusal → Type 0
 Apart None = Unit {0}
 Apart (Some r) = NotSix r
 
-first_apart : (cs : List (Bool × Refusal)) → All (λ c. NotSix c.1) cs → Apart (first_cause cs)
+first_apart : (cs : List (Bool × Refusal)) → AllByRecursion (λ c. NotSix c.1) cs → Apart (first_cause cs)
 first_apart [] h = tt
 first_apart (c ∷ cs) h = cond_both c.0 (Some c.1) (first_cause cs) Apart (λ _. h.0) (λ _. first_apart cs h.1)
 

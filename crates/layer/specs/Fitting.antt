@@ -1,7 +1,7 @@
 -- One layer whose records fit: its map, its length, and how it follows a change of the text below. Assumes nothing.
 use Rattle.std.specs.Prelude.{◌≡◌, ℕ, ◌+◌, ◌*◌, ◌≤◌, cond, List, [], ◌∷◌, length, nat_le, refl}
 use Rattle.std.proofs.Common.{ap, arith}
-use Rattle.std.specs.List.{AllByRecursion as All}
+use Rattle.std.specs.List.{AllByRecursion}
 use Rattle.std.proofs.lemmas.Bool.Decides.{nat_tests}
 use Rattle.std.proofs.lemmas.Bool.{cond_both}
 use Rattle.codes.specs.Codes.{placeholder}
@@ -31,13 +31,13 @@ fit_finds (tabs w) xs f = scan_finds (tab_stops w) (tabs_steady w f.0) xs
 fit_finds (wrap w) xs f = scan_finds (soft_wrap (row_length w)) (wrap_steady (row_length w)) xs
 
 -- what is true of each mark, and of a mark that moves, is true of each that follows
-followed_all : (P : Mark → Type 0) → ((o n : ℕ) (m : Mark) → P m → P (moved o n m)) → (s o n : ℕ) (ms : List Mark) → All P ms → All P (followed s o n ms)
+followed_all : (P : Mark → Type 0) → ((o n : ℕ) (m : Mark) → P m → P (moved o n m)) → (s o n : ℕ) (ms : List Mark) → AllByRecursion P ms → AllByRecursion P (followed s o n ms)
 followed_all P move s o n [] h = h
 followed_all P move s o n (m ∷ ms) h =
     let rest = followed_all P move s o n ms h.1 in
-    cond_both (nat_le (past m) s) (m ∷ followed s o n ms) (cond (nat_le (s + o) m.at) (moved o n m ∷ followed s o n ms) (followed s o n ms)) (All P)
+    cond_both (nat_le (past m) s) (m ∷ followed s o n ms) (cond (nat_le (s + o) m.at) (moved o n m ∷ followed s o n ms) (followed s o n ms)) (AllByRecursion P)
     (λ _. (h.0, rest))
-    (λ _. cond_both (nat_le (s + o) m.at) (moved o n m ∷ followed s o n ms) (followed s o n ms) (All P) (λ _. (move o n m h.0, rest)) (λ _. rest))
+    (λ _. cond_both (nat_le (s + o) m.at) (moved o n m ∷ followed s o n ms) (followed s o n ms) (AllByRecursion P) (λ _. (move o n m h.0, rest)) (λ _. rest))
 
 followed_few : (s o n : ℕ) (ms : List Mark) → length (followed s o n ms) ≤ length ms
 followed_few s o n [] = omega arith
@@ -76,11 +76,11 @@ follow_growth (marks fold ms) c n = refl
 follow_growth (tabs w) c n = refl
 follow_growth (wrap w) c n = refl
 
-short_shown : (ms : List Mark) → All (λ m. length m.shows ≤ 16) ms → shown_in ms ≤ 16 * length ms
+short_shown : (ms : List Mark) → AllByRecursion (λ m. length m.shows ≤ 16) ms → shown_in ms ≤ 16 * length ms
 short_shown [] h = omega arith
 short_shown (m ∷ ms) h = let rest = short_shown ms h.1 in let here = h.0 in omega arith
 
-one_shown : (ms : List Mark) → Solid ms → All (λ m. m.shows ≡ placeholder ∷ []) ms → shown_in ms ≤ taken_in ms
+one_shown : (ms : List Mark) → Solid ms → AllByRecursion (λ m. m.shows ≡ placeholder ∷ []) ms → shown_in ms ≤ taken_in ms
 one_shown [] s h = omega arith
 one_shown (m ∷ ms) s h = let rest = one_shown ms s.1 h.1 in let here = ap length h.0 in let some = s.0 in omega arith
 

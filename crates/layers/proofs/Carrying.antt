@@ -1,6 +1,6 @@
 -- Orders that a kind with a table of records carries out or refuses. Assumes nothing.
 use Rattle.std.proofs.Common.{◌≡◌, ℕ, ◌-◌, ◌≤◌, Bool, true, false, ◌||◌, eqb, ltb, List, [], ◌∷◌, length, Some, None, Ok, Err, Result, sym, refl, ap, ◌∙◌, subst, arith}
-use Rattle.std.specs.List.{AllByRecursion as All}
+use Rattle.std.specs.List.{AllByRecursion}
 use Rattle.std.proofs.lemmas.Bool.Decides.{nat_tests}
 use Rattle.std.proofs.lemmas.Bool.{cond-true, cond-false, le-ltb}
 use Rattle.buffer.specs.declared.fault.Refusal.{Refusal}
@@ -19,7 +19,7 @@ use Rattle.layers.specs.Ordering.{gone_change, Adds, Removes}
 use Rattle.layers.proofs.Fitting.{same_change}
 
 -- where no cause holds, none is found
-pub no_cause : (cs : List (Bool × Refusal)) → All (λ c. c.0 ≡ false) cs → first_cause cs ≡ None
+pub no_cause : (cs : List (Bool × Refusal)) → AllByRecursion (λ c. c.0 ≡ false) cs → first_cause cs ≡ None
 no_cause [] h = refl
 no_cause (c ∷ cs) h = cond-false c.0 (Some c.1) (first_cause cs) h.0 ∙ no_cause cs h.1
 

@@ -1,6 +1,6 @@
 -- What the kinds with tables of records are asked, over texts that their records fit. Assumes nothing.
 use Rattle.std.proofs.Common.{◌≡◌, ℕ, ◌+◌, ◌-◌, ◌≤◌, List, [], ◌∷◌, length, refl, ap, ◌∙◌, arith}
-use Rattle.std.specs.List.{AllByRecursion as All}
+use Rattle.std.specs.List.{AllByRecursion}
 use Rattle.std.proofs.lemmas.Bool.Decides.{nat_tests}
 use Rattle.places.specs.declared.change.Change.{Change}
 use Rattle.places.specs.Changes.{Kept}
@@ -20,7 +20,7 @@ pub same_change : (s o n s' o' n' : ℕ) → s ≡ s' → o ≡ o' → n ≡ n' 
 same_change s o n s' o' n' e f g = cc
 
 -- a change in a text short enough leaves room for every mark over it
-rooms : (c : Change) (ms : List Mark) (p n : ℕ) → Placed p ms n → n ≤ 1073741824 → c.start + c.old ≤ 1073741824 → c.new ≤ 1073741824 → All (Room c) ms
+rooms : (c : Change) (ms : List Mark) (p n : ℕ) → Placed p ms n → n ≤ 1073741824 → c.start + c.old ≤ 1073741824 → c.new ≤ 1073741824 → AllByRecursion (Room c) ms
 rooms c [] p n h a b d = tt
 rooms c (m ∷ ms) p n h a b d = let le = placed_le ms (past m) n h.2 in ((omega arith, omega arith), rooms c ms (past m) n h.2 a b d)
 
@@ -34,7 +34,7 @@ module _ {V S : Type 0} (e : Eyes V S) (v : V) (k : MarkKind) (ms : List Mark) w
   over_counted o = counted k ms (textAt e v) o.fit o.low
 
   module _ (c : Change) (b : Behind e v (marks k ms) c) where
-    pub behind_rooms : All (Room c) ms
+    pub behind_rooms : AllByRecursion (Room c) ms
     behind_rooms =
         let new = b.new_fits in
         let old = b.old_fits in

@@ -1,6 +1,6 @@
 -- What soft wrap does to a text, row by row. Assumes nothing.
 use Rattle.std.proofs.Common.{◌≡◌, ℕ, zero, suc, ◌+◌, ◌-◌, ◌<◌, ◌≤◌, true, false, cond, ltb, List, [], ◌∷◌, ◌++◌, length, get_or, take, drop, sym, refl, ap, ◌∙◌, subst, inl, inr, ⊎_elim, append_assoc, arith, length-append, length-take, take_at}
-use Rattle.std.specs.List.{AllByRecursion as All}
+use Rattle.std.specs.List.{AllByRecursion}
 use Rattle.std.proofs.lemmas.Bool.Decides.{nat_tests}
 use Rattle.std.proofs.lemmas.List.{get_or-take}
 use Rattle.std.proofs.lemmas.Bool.{cases_eq, cond_both, both_ways}
@@ -79,13 +79,13 @@ first_before : (x : ℕ) (rs : List (List ℕ)) → first_length (before x rs) �
 first_before x [] = refl
 first_before x (r ∷ rs) = refl
 
-all_before : (w x : ℕ) (rs : List (List ℕ)) → suc (first_length rs) ≤ w → All (λ r. length r ≤ w) rs → All (λ r. length r ≤ w) (before x rs)
+all_before : (w x : ℕ) (rs : List (List ℕ)) → suc (first_length rs) ≤ w → AllByRecursion (λ r. length r ≤ w) rs → AllByRecursion (λ r. length r ≤ w) (before x rs)
 all_before w x [] h a = (h, tt)
 all_before w x (r ∷ rs) h a = (h, a.1)
 
 -- the first row has at most k codes, and every row at most w
 Fit : ℕ → ℕ → List (List ℕ) → Type 0
-Fit w k rs = (first_length rs ≤ k) × All (λ r. length r ≤ w) rs
+Fit w k rs = (first_length rs ≤ k) × AllByRecursion (λ r. length r ≤ w) rs
 
 fit_end : (w k j x : ℕ) (t : List ℕ) → is_row_end x ≡ true → Fit w j (rows t) → Fit w k (rows (x ∷ t))
 unfolding Fit
@@ -116,10 +116,10 @@ module _ (rule : List ℕ → ℕ) (w : ℕ) (one : 1 ≤ w) (most : (l : List �
       (λ l. fit_end w k w soft_break (x ∷ anew) refl
       (fit_code w w (rule (x ∷ line_rest xs) - 1) x anew e (fit_wrapped (rule (x ∷ line_rest xs) - 1) xs (omega arith)) (omega arith) (omega arith))))
 
-  all_fit : (xs : List ℕ) → All (λ r. length r ≤ w) (rows (text_by (soft_wrap rule) xs))
+  all_fit : (xs : List ℕ) → AllByRecursion (λ r. length r ≤ w) (rows (text_by (soft_wrap rule) xs))
   unfolding Fit
   all_fit xs =
-      let P : List ℕ → Type 0 = λ t. All (λ r. length r ≤ w) (rows t) in
+      let P : List ℕ → Type 0 = λ t. AllByRecursion (λ r. length r ≤ w) (rows t) in
       subst P (sym (text_wrapped rule xs)) (fit_wrapped (rule (line_rest xs)) xs (most (line_rest xs))).1
 
 pub rows_fit : RowsFit
@@ -127,10 +127,10 @@ rows_fit w xs h = all_fit (row_length w) w h (row_most w) xs
 
 -- what holds of every front that a rule takes of a longer rest of a line holds of every row that a soft break closes
 module _ (rule : List ℕ → ℕ) (some : (x : ℕ) (l : List ℕ) → 1 ≤ rule (x ∷ l)) (Q : List ℕ → Type 0) (fronts : (l : List ℕ) → rule l < length l → Q (take (rule l) l)) where
-  broken_wrapped : (r : List ℕ) (k : ℕ) (xs : List ℕ) → unbroken xs ≡ true → rule (r ++ line_rest xs) ≡ length r + k → All Q (broken_rows r (wrapped_from rule k xs))
+  broken_wrapped : (r : List ℕ) (k : ℕ) (xs : List ℕ) → unbroken xs ≡ true → rule (r ++ line_rest xs) ≡ length r + k → AllByRecursion Q (broken_rows r (wrapped_from rule k xs))
   broken_wrapped r k [] s h = tt
   broken_wrapped r k (x ∷ xs) s h =
-      let P : List ℕ → Type 0 = λ t. All Q (broken_rows r t) in
+      let P : List ℕ → Type 0 = λ t. AllByRecursion Q (broken_rows r t) in
       let ended : List ℕ = wrapped_from rule (rule (line_rest xs)) xs in
       let going : List ℕ = wrapped_from rule (k - 1) xs in
       let anew : List ℕ = wrapped_from rule (rule (x ∷ line_rest xs) - 1) xs in
@@ -138,25 +138,25 @@ module _ (rule : List ℕ → ℕ) (some : (x : ℕ) (l : List ℕ) → 1 ≤ ru
       let hard : is_soft_break x ≡ false = grind (arith, nat_tests) in
       cond_both (is_row_end x) (x ∷ ended) (cond (ltb 0 k) (x ∷ going) (soft_break ∷ x ∷ anew)) P
       (λ e. let same : broken_rows r (x ∷ ended) ≡ broken_rows [] ended = grind (arith, nat_tests) in
-      subst (All Q) (sym same) (broken_wrapped [] (rule (line_rest xs)) xs left (omega arith)))
+      subst (AllByRecursion Q) (sym same) (broken_wrapped [] (rule (line_rest xs)) xs left (omega arith)))
       (λ e. let whole : line_rest (x ∷ xs) ≡ x ∷ line_rest xs = grind (arith, nat_tests) in
       let taken : rule (r ++ x ∷ line_rest xs) ≡ length r + k = ap (λ l. rule (r ++ l)) (sym whole) ∙ h in
       cond_both (ltb 0 k) (x ∷ going) (soft_break ∷ x ∷ anew) P
       (λ l. let room : 0 < k = grind (arith, nat_tests) in
       let same : broken_rows r (x ∷ going) ≡ broken_rows (r ++ x ∷ []) going = grind (arith, nat_tests) in
-      subst (All Q) (sym same) (broken_wrapped (r ++ x ∷ []) (k - 1) xs left
+      subst (AllByRecursion Q) (sym same) (broken_wrapped (r ++ x ∷ []) (k - 1) xs left
       (ap rule (append_assoc r (x ∷ []) (line_rest xs)) ∙ taken ∙ omega (arith, length-append r (x ∷ [])))))
       (λ l. let none : k ≡ 0 = grind (arith, nat_tests) in
       let same : broken_rows [] (x ∷ anew) ≡ broken_rows (x ∷ []) anew = grind (arith, nat_tests) in
       let exact : rule (r ++ x ∷ line_rest xs) ≡ length r = omega arith in
       let here : take (rule (r ++ x ∷ line_rest xs)) (r ++ x ∷ line_rest xs) ≡ r = ap (λ z. take z (r ++ x ∷ line_rest xs)) exact ∙ take_at r (x ∷ line_rest xs) (length r) refl in (
         subst Q here (fronts (r ++ x ∷ line_rest xs) (omega (arith, length-append r (x ∷ line_rest xs)))),
-        subst (All Q) (sym same) (broken_wrapped (x ∷ []) (rule (x ∷ line_rest xs) - 1) xs left (omega (arith, some x (line_rest xs)))),
+        subst (AllByRecursion Q) (sym same) (broken_wrapped (x ∷ []) (rule (x ∷ line_rest xs) - 1) xs left (omega (arith, some x (line_rest xs)))),
       )))
 
-  all_broken : (xs : List ℕ) → unbroken xs ≡ true → All Q (broken_rows [] (text_by (soft_wrap rule) xs))
+  all_broken : (xs : List ℕ) → unbroken xs ≡ true → AllByRecursion Q (broken_rows [] (text_by (soft_wrap rule) xs))
   all_broken xs s =
-      let P : List ℕ → Type 0 = λ t. All Q (broken_rows [] t) in
+      let P : List ℕ → Type 0 = λ t. AllByRecursion Q (broken_rows [] t) in
       subst P (sym (text_wrapped rule xs)) (broken_wrapped [] (rule (line_rest xs)) xs s (omega arith))
 
 -- the last code before that place is a space

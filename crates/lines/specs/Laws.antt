@@ -1,6 +1,6 @@
 -- What tab stops and soft wrap do, in terms of the texts alone. Assumes nothing.
 use Rattle.std.specs.Prelude.{◌≡◌, ℕ, suc, ◌+◌, ◌-◌, ◌%◌, ◌<◌, ◌≤◌, Bool, true, cond, not, ◌&&◌, ◌⊎◌, List, [], ◌∷◌, ◌++◌, length, take, drop, slice_index}
-use Rattle.std.specs.List.{AllByRecursion as All}
+use Rattle.std.specs.List.{AllByRecursion}
 use Rattle.codes.specs.Codes.{soft_break, is_soft_break, is_row_end}
 use Rattle.lines.specs.Lines.{line_rest, rest_length, line_start}
 use Rattle.lines.specs.Rows.{rows, broken_rows}
@@ -22,7 +22,7 @@ wrapped w xs = text_by (soft_wrap (row_length w)) xs
 
 -- no row of the wrapped text is longer than the width
 abbrev pub RowsFit : Type 0
-RowsFit = (w : ℕ) (xs : List ℕ) → 1 ≤ w → All (λ r. length r ≤ w) (rows (wrapped w xs))
+RowsFit = (w : ℕ) (xs : List ℕ) → 1 ≤ w → AllByRecursion (λ r. length r ≤ w) (rows (wrapped w xs))
 
 abbrev pub without_breaks : List ℕ → List ℕ
 without_breaks [] = []
@@ -41,7 +41,7 @@ abbrev pub WellBroken : ℕ → List ℕ → Type 0
 WellBroken w r = ((0 < length r) × (is_space (slice_index r (length r - 1)) ≡ true)) ⊎ ((length r ≡ w) × (spaceless r ≡ true))
 
 abbrev pub RowsWellBroken : Type 0
-RowsWellBroken = (w : ℕ) (xs : List ℕ) → 1 ≤ w → unbroken xs ≡ true → All (WellBroken w) (broken_rows [] (wrapped w xs))
+RowsWellBroken = (w : ℕ) (xs : List ℕ) → 1 ≤ w → unbroken xs ≡ true → AllByRecursion (WellBroken w) (broken_rows [] (wrapped w xs))
 
 -- without soft breaks the text is the one below, which has soft breaks of its own only where it is wrapped already
 abbrev pub BreaksTakenOut : Type 0

@@ -1,6 +1,6 @@
 -- Marks that follow a change below: they stay in order, and what the text above keeps. Assumes nothing.
 use Rattle.std.proofs.Common.{◌≡◌, ℕ, ◌+◌, ◌-◌, ◌<◌, ◌≤◌, cond, eqb, List, [], ◌∷◌, ◌++◌, map, length, sym, refl, ap, ◌∙◌, subst, ⊎_elim, append_assoc, arith}
-use Rattle.std.specs.List.{AllByRecursion as All}
+use Rattle.std.specs.List.{AllByRecursion}
 use Rattle.std.proofs.lemmas.Bool.Decides.{nat_tests}
 use Rattle.std.proofs.lemmas.Bool.{cases_eq}
 use Rattle.std.proofs.ByRecursion.{All-append}
@@ -113,7 +113,7 @@ hints_follow ms xs ys s o n g h kept =
     let none_shown : shown_in d ≡ 0 = ap shown_in none in
     grind (arith, nat_tests))
     (λ (z : o ≡ 0 → ⊥).
-    let before : All (λ m. m.at < s + o) (a ++ d) =
+    let before : AllByRecursion (λ m. m.at < s + o) (a ++ d) =
     All-append (λ m. m.at < s + o) a d (placed_before a 0 s (s + o) ha (omega arith)) (begun_before (s + o) r) in
     let f₂ = first_cut (a ++ d) b 0 (s + o) N had before hb in
     let e₂ : first_by 0 ((a ++ d) ++ b) (s + o) ≡ first_by 0 ms (s + o) = ap (λ z. first_by 0 z (s + o)) (append_assoc a d b ∙ whole) in

@@ -1,6 +1,6 @@
 -- Marks in order: their parts, how they stand when they move, and the sums of what they take and show. Assumes nothing.
 use Rattle.std.proofs.Common.{◌≡◌, ℕ, ◌+◌, ◌-◌, ◌<◌, ◌≤◌, List, [], ◌∷◌, ◌++◌, map, length, refl, ap, ◌∙◌, arith}
-use Rattle.std.specs.List.{AllByRecursion as All}
+use Rattle.std.specs.List.{AllByRecursion}
 use Rattle.places.specs.Marks.{Mark, past, Placed, taken_in, shown_in, moved, Light, Solid}
 
 -- marks leave room for themselves
@@ -62,11 +62,11 @@ shown_in_append [] b = omega arith
 shown_in_append (m ∷ a) b = let rest = shown_in_append a b in omega arith
 
 -- marks before a place begin before any place behind it, and marks that take something before the place itself
-pub placed_before : (ms : List Mark) (p c d : ℕ) → Placed p ms c → c < d → All (λ m. m.at < d) ms
+pub placed_before : (ms : List Mark) (p c d : ℕ) → Placed p ms c → c < d → AllByRecursion (λ m. m.at < d) ms
 placed_before [] p c d h l = tt
 placed_before (m ∷ ms) p c d h l = (omega (arith, placed_le ms (past m) c h.2), placed_before ms (past m) c d h.2 l)
 
-pub solid_before : (ms : List Mark) (p c : ℕ) → Placed p ms c → Solid ms → All (λ m. m.at < c) ms
+pub solid_before : (ms : List Mark) (p c : ℕ) → Placed p ms c → Solid ms → AllByRecursion (λ m. m.at < c) ms
 solid_before [] p c h g = tt
 solid_before (m ∷ ms) p c h g = (omega (arith, placed_le ms (past m) c h.2, g.0), solid_before ms (past m) c h.2 g.1)
 

@@ -1,6 +1,6 @@
 -- One mark more or one less: the marks stay in order, and what the text above keeps. Assumes nothing.
 use Rattle.std.proofs.Common.{◌≡◌, ℕ, ◌+◌, ◌<◌, ◌≤◌, List, [], ◌∷◌, ◌++◌, map, length, sym, refl, ap, subst, arith}
-use Rattle.std.specs.List.{AllByRecursion as All}
+use Rattle.std.specs.List.{AllByRecursion}
 use Rattle.places.specs.Changes.{Keeps}
 use Rattle.places.specs.Maps.{first_of, last_of}
 use Rattle.places.specs.Pieces.{shown_text, spans_of, under_by}
@@ -83,7 +83,7 @@ out_keeps a b m xs ha s hb i ei =
     subst (λ z. Keeps (shown_text (laid 0 (a ++ (m ∷ b)) xs)) (shown_text (laid 0 (a ++ z) xs)) i (length m.shows) t) same base
 
 -- a mark taken out, the first one at its place: what it shows gives way to what it takes, at the first place over it
-pub mark_out : (a b : List Mark) (m : Mark) (xs : List ℕ) → Placed 0 (a ++ (m ∷ b)) (length xs) → All (λ x. x.at < m.at) a
+pub mark_out : (a b : List Mark) (m : Mark) (xs : List ℕ) → Placed 0 (a ++ (m ∷ b)) (length xs) → AllByRecursion (λ x. x.at < m.at) a
     → Keeps (shown_text (laid 0 (a ++ (m ∷ b)) xs)) (shown_text (laid 0 (a ++ b) xs))
     (first_of (under_by (spans_of (laid 0 (a ++ (m ∷ b)) xs))) (length (shown_text (laid 0 (a ++ (m ∷ b)) xs))) m.at) (length m.shows) m.takes
 mark_out a b m xs h before =

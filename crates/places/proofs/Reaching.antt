@@ -1,7 +1,7 @@
 -- The two searches over marks as sums from the front, and their values where marks are in parts. Assumes nothing.
 use Rattle.std.proofs.Common.{◌≡◌, ℕ, ◌+◌, ◌-◌, ◌<◌, ◌≤◌, cond, ltb, List, [], ◌∷◌, ◌++◌, length, take, drop, sym, refl, ap, ◌∙◌, arith}
 use native.Mathlib.Nat.{sub-zero}
-use Rattle.std.specs.List.{AllByRecursion as All}
+use Rattle.std.specs.List.{AllByRecursion}
 use Rattle.std.proofs.lemmas.Bool.Decides.{nat_tests}
 use Rattle.places.specs.Maps.{first_of, last_of}
 use Rattle.places.specs.Pieces.{Piece, shown_text, spans_of, under_by}
@@ -79,7 +79,7 @@ module _ (ms : List Mark) (xs : List ℕ) (h : Placed 0 ms (length xs)) (d : ℕ
       ∙ walk_last_is (spans_of (laid 0 ms xs)) (length (shown_text (laid 0 ms xs))) (length xs) (laid_rewrites ms xs h) d l
 
 -- the first place over c, where some marks begin before c and end by there, and the others begin at c or behind it
-pub first_cut : (a b : List Mark) (p c n : ℕ) → Placed p a c → All (λ m. m.at < c) a → Placed c b n → first_by p (a ++ b) c + taken_in a ≡ (c - p) + shown_in a
+pub first_cut : (a b : List Mark) (p c n : ℕ) → Placed p a c → AllByRecursion (λ m. m.at < c) a → Placed c b n → first_by p (a ++ b) c + taken_in a ≡ (c - p) + shown_in a
 first_cut [] [] p c n ha l hb = omega arith
 first_cut [] (m ∷ b) p c n ha l hb = grind (arith, nat_tests)
 first_cut (m ∷ a) b p c n ha l hb =

@@ -1,6 +1,6 @@
 -- Marks split at a place, by where they end or by where they begin. Assumes nothing.
 use Rattle.std.proofs.Common.{◌≡◌, ℕ, ◌<◌, ◌≤◌, cond, ltb, List, [], ◌∷◌, ◌++◌, refl, ap, ◌∙◌, ⊎_elim, arith}
-use Rattle.std.specs.List.{AllByRecursion as All}
+use Rattle.std.specs.List.{AllByRecursion}
 use Rattle.std.proofs.lemmas.Bool.Decides.{nat_tests}
 use Rattle.std.proofs.lemmas.Bool.{cases_lt}
 use Rattle.places.specs.Marks.{Mark, past, Placed, ended, unended, Light}
@@ -59,7 +59,7 @@ ended_placed s p N (m ∷ ms) h l = ⊎_elim
     (λ (within : past m ≤ s). rw ended_in (h.0, h.1, ended_placed s (past m) N ms h.2 within))
     (cases_lt s (past m))
 
-pub begun_before : (c : ℕ) (ms : List Mark) → All (λ m. m.at < c) (begun c ms)
+pub begun_before : (c : ℕ) (ms : List Mark) → AllByRecursion (λ m. m.at < c) (begun c ms)
 begun_before c [] = tt
 begun_before c (m ∷ ms) = ⊎_elim
     (λ (l : m.at < c). rw begun_in (l, begun_before c ms))

@@ -1,6 +1,6 @@
 -- A sweep that lets the records of a table follow a change, one by one. Assumes nothing.
 use Rattle.std.proofs.Common.{◌≡◌, ℕ, ◌+◌, ◌<◌, ◌≤◌, Bool, true, false, cond, ◌||◌, List, [], ◌∷◌, ◌++◌, map, length, get_or, take, drop, set, sym, refl, ap, ◌∙◌, subst, add-zero, arith}
-use Rattle.std.specs.List.{AllByRecursion as All}
+use Rattle.std.specs.List.{AllByRecursion}
 use Rattle.std.proofs.lemmas.List.{append-nil, append_assoc, length-set, length-take, length-map, drop-drop, get_or-drop, get_or-take, get_or-map, drop-set-lt, take-set-le, take_more_set, get_or-set_same, drop_more, at_drop_all, map-append}
 use Rattle.std.proofs.ByRecursion.{All-get_or}
 use Rattle.std.proofs.lemmas.Bool.{true≢false, false≢true}
@@ -107,7 +107,7 @@ swept_all mark c old new count kept i s h =
     sym (append-nil (map mark (take kept new))) ∙ ap (λ (z : List Mark). map mark (take kept new) ++ z) (sym none) ∙ s.done
 
 -- the next record has room, since it is one of the first records as they were
-pub room_ahead : {R : Type 0} (mark : R → Mark) (c : Change) (old new : List R) (count i : ℕ) (d : R) → drop i new ≡ drop i old → i < length (take count old) → All (Room c) (map mark (take count old))
+pub room_ahead : {R : Type 0} (mark : R → Mark) (c : Change) (old new : List R) (count i : ℕ) (d : R) → drop i new ≡ drop i old → i < length (take count old) → AllByRecursion (Room c) (map mark (take count old))
     → Room c (mark (get_or new i d))
 room_ahead {R} mark c old new count i d same inside all =
     let in_marks : i < length (map mark (take count old)) = omega (arith, length-map (take count old) mark) in

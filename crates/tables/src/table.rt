@@ -1,6 +1,6 @@
 // Up to 64 records of one kind, in the order of their places.
 ghost use Rattle.std.specs.Prelude.{◌≡◌, ◌<◌, ◌≤◌, ◌&&◌, ltb, leb, [], ◌∷◌, length, if◌then◌else◌, nat_le, nat_lt};
-ghost use Rattle.std.specs.List.{prefix_len, AllByRecursion as All};
+ghost use Rattle.std.specs.List.{prefix_len, AllByRecursion};
 ghost use Rattle.places.specs.Marks.{past, followed};
 ghost use Rattle.tables.specs.Records.{Room};
 ghost use Rattle.tables.specs.Tables.{records_of, marks_of, inserted_at, removed_at, passes as passesOf};
@@ -102,7 +102,7 @@ impl<R: Record> Table<R> {
 
     // Lets every record follow a change of the text below, and drops those that do not live on. One pass.
     pub fn follow(&mut self, change: Change)
-        requires { All (Room change) (marks_of R.Record.mark self.old) }
+        requires { AllByRecursion (Room change) (marks_of R.Record.mark self.old) }
         ensures followed { marks_of R.Record.mark self.new ≡ followed change.start change.old change.new (marks_of R.Record.mark self.old) }
         ensures fewer { length (records_of self.new) ≤ length (records_of self.old) }
     {
@@ -172,7 +172,7 @@ mod tests {
 
     // Three records in a table that has followed a change.
     fn after<R: Record>(a: R, b: R, c: R, change: Change) -> Table<R>
-        requires { All (λ x. Room change (R.Record.mark x)) (a ∷ b ∷ c ∷ []) }
+        requires { AllByRecursion (λ x. Room change (R.Record.mark x)) (a ∷ b ∷ c ∷ []) }
     {
         let mut table = Table::new(a);
         table.insert(0, c);

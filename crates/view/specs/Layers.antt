@@ -1,6 +1,6 @@
 -- One layer: what its records show of the text below, and how they follow a change of it. Assumes nothing.
 use Rattle.std.specs.Prelude.{◌≡◌, ℕ, ◌+◌, ◌-◌, ◌*◌, ◌≤◌, cond, List, [], ◌∷◌, length, ◌==◌}
-use Rattle.std.specs.List.{AllByRecursion as All}
+use Rattle.std.specs.List.{AllByRecursion}
 use Rattle.codes.specs.Codes.{placeholder}
 use Rattle.places.specs.declared.change.Change.{Change}
 use Rattle.places.specs.Maps.{first_of, last_of}
@@ -72,8 +72,8 @@ growth (wrap _) c = 2 * c
 -- records that a layer can keep over a text of n codes: marks in order, within it, few, and each of its kind; a width
 -- that the kind takes
 abbrev pub Fit : Records → ℕ → Type 0
-Fit (marks hint ms) n = Placed 0 ms n × Light ms × (length ms ≤ most_records) × All (λ m. length m.shows ≤ longest_hint) ms
-Fit (marks fold ms) n = Placed 0 ms n × Solid ms × (length ms ≤ most_records) × All (λ m. m.shows ≡ placeholder ∷ []) ms
+Fit (marks hint ms) n = Placed 0 ms n × Light ms × (length ms ≤ most_records) × AllByRecursion (λ m. length m.shows ≤ longest_hint) ms
+Fit (marks fold ms) n = Placed 0 ms n × Solid ms × (length ms ≤ most_records) × AllByRecursion (λ m. m.shows ≡ placeholder ∷ []) ms
 Fit (tabs w) n = (1 ≤ w) × (w ≤ widest_tab)
 Fit (wrap w) n = (narrowest_wrap ≤ w) × (w ≤ widest_wrap)
 
