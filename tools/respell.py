@@ -2,8 +2,8 @@
 """Respells the definitions, lemmas, record fields and ghost members of this repository as Rattle now spells them:
 in snake case, with a dash only where it joins the names of two functions (length-shown, under-append).
 
-It was run once, at the top of the repository, straight after the toolchain's port.py; docs/PORT.md says when.
-Functions of src/, strings, inputs and outputs keep their names."""
+It was run at the top of the repository, straight after the toolchain's port.py, and again as its table grew (local names
+came last); docs/PORT.md says when. Functions of src/, strings, inputs and outputs keep their names."""
 import glob
 import re
 
@@ -420,6 +420,7 @@ parted-down parted_down
 parted-here parted_here
 parted-up parted_up
 parts-keep parts_keep
+passesOf passes_of
 passing-here passing_here
 passing-none passing_none
 passingIndex passing_index
@@ -517,6 +518,7 @@ rowLength row_length
 rows-counted rows_counted
 rows-kept rows_kept
 rows-well-broken rows_well_broken
+rowsBefore rows_before
 running-cut running_cut
 running-rises running_rises
 runningSum running_sum
@@ -544,7 +546,7 @@ shown-ends-no-row shown_ends_no_row
 shown-first shown_first
 shown-front shown_front
 shown-halves shown_halves
-shown-in-append shown_in_append
+shown-in-append shown_in-append
 shown-keeps shown_keeps
 shown-long shown_long
 shown-mark shown_mark
@@ -598,6 +600,7 @@ sum-e sum_e
 swept-gone swept_gone
 tab-most-from tab_most_from
 tab-stops tab_stops_lem
+tabRecords tab_records
 tabShown tab_shown
 tabStops tab_stops
 tabs-behind tabs_behind
@@ -620,7 +623,7 @@ tailLow tail_low
 tailOf tail_of
 taken-first taken_first
 taken-front taken_front
-taken-in-append taken_in_append
+taken-in-append taken_in-append
 taken-pieces taken_pieces
 taken-sum taken_sum
 takenBy taken_by
@@ -640,6 +643,7 @@ text-then text_then
 text-then-asleep text_then_asleep
 text-then-awake text_then_awake
 text-wrapped text_wrapped
+textAt text_at
 textBy text_by
 textOver text_over
 through-asleep through_asleep
@@ -698,6 +702,7 @@ wrap-raised wrap_raised
 wrap-shown-le wrap_shown_le
 wrap-steady wrap_steady
 wrap-walk wrap_walk
+wrapRecords wrap_records
 wrapped-anew wrapped_anew
 wrappedFrom wrapped_from
 written-3 written_3

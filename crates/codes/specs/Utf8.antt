@@ -1,4 +1,4 @@
--- What the bytes of a text are read as, by the syntax of RFC 3629. Writing is `encode` of lib.Utf8. Assumes nothing.
+-- What the bytes of a text are read as, by the syntax of RFC 3629. Writing is the library's `encode_utf8`. Assumes nothing.
 use Rattle.std.specs.Prelude.{◌≡◌, ℕ, zero, suc, ◌+◌, ◌-◌, ◌*◌, ◌<◌, Bool, true, cond, ◌||◌, List, [], ◌∷◌, ◌++◌, length, take, ◌==◌, ◌≢◌, nat_lt}
 use lib.Utf8.{scalar}
 use Rattle.std.specs.Char.{encode_utf8}

@@ -102,16 +102,16 @@ pub damages_stay_below : {X : Type 0} (xs ys zs : List X) (d e : Damage) → Pat
 damages_stay_below xs ys zs d e h i = fitting_uncut xs zs (followed_by d e) (damages_compose xs ys zs d e h i)
 
 -- the damage by the row ends in front of the change, inside it and behind it, where past is the place behind it
-pub damage_counted : (t : List ℕ) (rowsBefore : ℕ) (c : Change) (past len inside behind : ℕ) (d : Damage) → length t < 2 ^ 32
+pub damage_counted : (t : List ℕ) (rows_before : ℕ) (c : Change) (past len inside behind : ℕ) (d : Damage) → length t < 2 ^ 32
     → past ≡ min (c.start + c.new) (2 ^ 32 - 1) → len ≡ length t
     → inside ≡ ends_before t past - ends_before t c.start
     → behind ≡ ends_before t len - ends_before t past
-    → d.first ≡ ends_before t c.start → d.old ≡ rowsBefore - (d.first + behind) → d.new ≡ inside + 1
-    → d ≡ damage_of t rowsBefore c
-damage_counted t rowsBefore c past len inside behind d short is-past is-len is-inside is-behind is-first is-old is-new =
+    → d.first ≡ ends_before t c.start → d.old ≡ rows_before - (d.first + behind) → d.new ≡ inside + 1
+    → d ≡ damage_of t rows_before c
+damage_counted t rows_before c past len inside behind d short is-past is-len is-inside is-behind is-first is-old is-new =
     let same = ends_capped t (c.start + c.new) (2 ^ 32 - 1) past (omega arith) is-past in
     let rises = ends_rise t c.start (c.start + c.new) (omega arith) in
     let all = ends_all t len (omega arith) in
     let within = ends_within t past in
     let long = rows_counted t in
-    same_damage d (damage_of t rowsBefore c) is-first (omega arith) (omega arith)
+    same_damage d (damage_of t rows_before c) is-first (omega arith) (omega arith)

@@ -23,7 +23,7 @@ new_rows t c = ends_before t (c.start + c.new) - ends_before t c.start + 1
 
 -- the damage that the change c did, where t is the text after it and the text before it had so many rows
 abbrev pub damage_of : List ℕ → ℕ → Change → Damage
-damage_of t rowsBefore c = record { first = ends_before t c.start; old = new_rows t c + rowsBefore - length (rows t); new = new_rows t c }
+damage_of t rows_before c = record { first = ends_before t c.start; old = new_rows t c + rows_before - length (rows t); new = new_rows t c }
 
 -- where two damages in a row begin, and where they end in the rows between the two
 abbrev pub joint_first : Damage → Damage → ℕ

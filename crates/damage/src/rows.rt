@@ -1,7 +1,7 @@
 // Counting the rows of a view's text, and the damage that a change of the text does to them.
 ghost use Rattle.std.specs.Prelude.{◌≡◌, ◌-◌, length};
 ghost use Rattle.lines.specs.Rows.{rows};
-ghost use Rattle.view.specs.Seen.{textAt};
+ghost use Rattle.view.specs.Seen.{text_at};
 ghost use Rattle.damage.specs.Damages.{ends_before, damage_of};
 
 use crate::damage::Damage;
@@ -13,7 +13,7 @@ use view::view::View;
 // The row ends among the codes of the text from the place `from` up to `to`. Costs a question for each of these codes.
 fn ends_between<V: View>(view: &V, from: u32, to: u32) -> u32
     requires { V.View.sound view.now }
-    ensures { result ≡ ends_before (textAt V.View view.now) to - ends_before (textAt V.View view.now) from }
+    ensures { result ≡ ends_before (text_at V.View view.now) to - ends_before (text_at V.View view.now) from }
 {
     let mut ends = 0;
     for i in from..to.min(view.len()) {
@@ -28,7 +28,7 @@ fn ends_between<V: View>(view: &V, from: u32, to: u32) -> u32
 // the place `v`, counted from 0. Costs a question for each of these codes.
 pub fn ends_before<V: View>(view: &V, v: u32) -> u32
     requires { V.View.sound view.now }
-    ensures { result ≡ ends_before (textAt V.View view.now) v }
+    ensures { result ≡ ends_before (text_at V.View view.now) v }
 {
     ends_between(view, 0, v)
 }
@@ -36,7 +36,7 @@ pub fn ends_before<V: View>(view: &V, v: u32) -> u32
 // How many rows the text has: at least one, and one more than it has row ends. Costs a question for each code.
 pub fn count_rows<V: View>(view: &V) -> u32
     requires { V.View.sound view.now }
-    ensures { result ≡ length (rows (textAt V.View view.now)) }
+    ensures { result ≡ length (rows (text_at V.View view.now)) }
 {
     ends_before(view, view.len()) + 1
 }
@@ -45,7 +45,7 @@ pub fn count_rows<V: View>(view: &V) -> u32
 // Costs a question for each code.
 pub fn damage_of<V: View>(view: &V, change: Change, rows_before: u32) -> Damage
     requires { V.View.sound view.now }
-    ensures { result ≡ damage_of (textAt V.View view.now) rows_before change }
+    ensures { result ≡ damage_of (text_at V.View view.now) rows_before change }
 {
     let past = change.start.saturating_add(change.new);
     let first = ends_before(view, change.start);

@@ -12,7 +12,7 @@ use Rattle.view.specs.declared.fault.Cause.TheVariants.{Buffer, PastEnd, NoLayer
 use Rattle.view.specs.declared.fault.ViewFault.{ViewFault}
 use Rattle.view.specs.declared.order.Order.{Order}
 use Rattle.view.specs.Refusals.{cause_refusal, view_refusal, at_layer, deeper, with_steps, meant_for, first_cause, Rises}
-use Rattle.view.specs.Layers.{hint, fold, Records, marks, tabs, wrap, widest_tab, narrowest_wrap, widest_wrap}
+use Rattle.view.specs.Layers.{Records, hints, folds, tabs, wrap, widest_tab, narrowest_wrap, widest_wrap}
 use Rattle.view.specs.Orders.{adds, add_causes, remove_causes, width_causes, own_refusal, has_verb}
 use Rattle.view.specs.Stacks.{awake, first_place, meant_refusal, order_refusal_of}
 
@@ -79,14 +79,14 @@ first_apart [] h = tt
 first_apart (c ∷ cs) h = cond_both c.0 (Some c.1) (first_cause cs) Apart (λ _. h.0) (λ _. first_apart cs h.1)
 
 own_apart : (r : Records) (n a b : ℕ) (o : Order) (w : List ℕ) → Apart (own_refusal r n a b o w)
-own_apart (marks hint ms) n a b o w =
-    cond_both (adds hint o.verb) _ _ Apart
-    (λ _. first_apart (add_causes hint ms n a b o w) (λ h. omega arith, (λ h. omega arith, (λ h. omega arith, (λ h. omega arith, tt)))))
-    (λ _. first_apart (remove_causes hint ms n a o) (λ h. omega arith, (λ h. omega arith, tt)))
-own_apart (marks fold ms) n a b o w =
-    cond_both (adds fold o.verb) _ _ Apart
-    (λ _. first_apart (add_causes fold ms n a b o w) (λ h. omega arith, (λ h. omega arith, (λ h. omega arith, (λ h. omega arith, (λ h. omega arith, tt))))))
-    (λ _. first_apart (remove_causes fold ms n a o) (λ h. omega arith, (λ h. omega arith, tt)))
+own_apart (hints ms) n a b o w =
+    cond_both (adds (hints ms) o.verb) _ _ Apart
+    (λ _. first_apart (add_causes (hints ms) n a b o w) (λ h. omega arith, (λ h. omega arith, (λ h. omega arith, (λ h. omega arith, tt)))))
+    (λ _. first_apart (remove_causes (hints ms) n a o) (λ h. omega arith, (λ h. omega arith, tt)))
+own_apart (folds ms) n a b o w =
+    cond_both (adds (folds ms) o.verb) _ _ Apart
+    (λ _. first_apart (add_causes (folds ms) n a b o w) (λ h. omega arith, (λ h. omega arith, (λ h. omega arith, (λ h. omega arith, (λ h. omega arith, tt))))))
+    (λ _. first_apart (remove_causes (folds ms) n a o) (λ h. omega arith, (λ h. omega arith, tt)))
 own_apart (tabs _) n a b o w = first_apart (width_causes 1 widest_tab o) (λ h. omega arith, tt)
 own_apart (wrap _) n a b o w = first_apart (width_causes narrowest_wrap widest_wrap o) (λ h. omega arith, tt)
 

@@ -6,10 +6,10 @@ use Rattle.std.proofs.lemmas.Bool.{cond-true, cond-false, cases_Bool}
 use Rattle.places.specs.declared.change.Change.{Change}
 use Rattle.places.specs.Changes.{Kept}
 use Rattle.places.proofs.Keeping.{keeps_length}
-use Rattle.view.specs.Layers.{Records, marks, tabs, wrap, shown, growth, Fit, follow, raised}
+use Rattle.view.specs.Layers.{Records, hints, folds, tabs, wrap, shown, growth, Fit, follow, raised}
 use Rattle.view.specs.Stacks.{ceiling_of, awake, text_of, AllFit, Means, Changed, carried}
 use Rattle.view.specs.declared.view.View.{Ghosts as Eyes}
-use Rattle.view.specs.Seen.{textAt}
+use Rattle.view.specs.Seen.{text_at}
 use Rattle.view.specs.Kinds.{Countable, Over, Behind, Raises}
 use Rattle.layer.specs.Sound.{Sound}
 use Rattle.layer.specs.Fitting.{follow_fit, follow_kept, follow_growth, growth_rises, grown_length}
@@ -33,34 +33,36 @@ when_made true P Q p q = p refl
 when_made false P Q p q = q refl
 
 grown_countable : (r : Records) (n : ℕ) → growth r n ≤ 1073741824 → Countable r n
-grown_countable (marks k ms) n h = tt
+grown_countable (hints ms) n h = tt
+grown_countable (folds ms) n h = tt
 grown_countable (tabs w) n h = h
 grown_countable (wrap w) n h = h
 
 still_countable : (r : Records) (c : Change) (n : ℕ) → Countable (follow r c) n → Countable r n
-still_countable (marks k ms) c n h = tt
+still_countable (hints ms) c n h = tt
+still_countable (folds ms) c n h = tt
 still_countable (tabs w) c n h = h
 still_countable (wrap w) c n h = h
 
 module _ {V S : Type 0} (e : Eyes V S) (v : V) (lawful : Lawful e v) where
-  pub text_small : length (textAt e v) ≤ 1073741824
+  pub text_small : length (text_at e v) ≤ 1073741824
   text_small =
       let t = text_le e.most (e.stack v) (e.doc v) lawful.fits (omega (arith, lawful.small.0)) in
       let c = ceiling_le e.most (e.stack v) lawful.small.1 in
       omega arith
 
   -- a layer that is awake over it, with records that fit
-  pub over : (r : Records) → awake e.most r (e.stack v) ≡ true → Fit r (length (textAt e v)) → Over e v r
+  pub over : (r : Records) → awake e.most r (e.stack v) ≡ true → Fit r (length (text_at e v)) → Over e v r
   over r up fit =
       let t = text_le e.most (e.stack v) (e.doc v) lawful.fits (omega (arith, lawful.small.0)) in
-      let g = grown_length r (textAt e v) (ceiling_of e.most (e.stack v)) fit t in
+      let g = grown_length r (text_at e v) (ceiling_of e.most (e.stack v)) fit t in
       let h : growth r (ceiling_of e.most (e.stack v)) ≤ 1073741824 = grind (arith, nat_tests) in
       record { sound = lawful.sound; fit = fit; low = text_small; high = omega arith; room = grown_countable r _ (omega (arith, growth_rises r _ _ t)) }
 
   -- the records of a sound layer over it fit with those below
   pub sound_fits : (r : Records) (len top : ℕ) (up : Bool) → Sound e v r len top up → AllFit e.most (r ∷ e.stack v) (e.doc v)
   sound_fits r len top up s =
-      let P : Bool → Type 0 = λ b. MatchBool b (Fit r (length (textAt e v))) (Unit {0}) in
+      let P : Bool → Type 0 = λ b. MatchBool b (Fit r (length (text_at e v))) (Unit {0}) in
       (lawful.fits, subst P s.knows s.fits)
 
   -- so a sound layer over it means what its records and those below say
@@ -73,15 +75,15 @@ module _ {V S : Type 0} (e : Eyes V S) (v : V) (lawful : Lawful e v) where
 
 -- the view below went from v to v' by the change c, which a sound layer with the records r follows
 module _ {V S : Type 0} (e : Eyes V S) (v v' : V) (lawful : Lawful e v) (lawful' : Lawful e v') (r : Records) (len top : ℕ) (up : Bool)
-    (s : Sound e v r len top up) (c : Change) (kept : Kept (textAt e v) (textAt e v') c) (low : ceiling_of e.most (e.stack v') ≡ ceiling_of e.most (e.stack v)) where
-  before_is : length (textAt e v') + c.old - c.new ≡ length (textAt e v)
-  before_is = let h = keeps_length (textAt e v) (textAt e v') c.start c.old c.new kept in omega arith
+    (s : Sound e v r len top up) (c : Change) (kept : Kept (text_at e v) (text_at e v') c) (low : ceiling_of e.most (e.stack v') ≡ ceiling_of e.most (e.stack v)) where
+  before_is : length (text_at e v') + c.old - c.new ≡ length (text_at e v)
+  before_is = let h = keeps_length (text_at e v) (text_at e v') c.start c.old c.new kept in omega arith
 
   follow_awake : up ≡ true → awake e.most (follow r c) (e.stack v') ≡ true
   follow_awake h = same_awake e.most r (follow r c) (e.stack v) (e.stack v') (follow_growth r c) low ∙ sym s.knows ∙ h
 
-  carry_fit : up ≡ true → Fit (follow r c) (length (textAt e v'))
-  carry_fit h = follow_fit r (textAt e v) (textAt e v') c (when_true _ _ h s.fits) kept
+  carry_fit : up ≡ true → Fit (follow r c) (length (text_at e v'))
+  carry_fit h = follow_fit r (text_at e v) (text_at e v') c (when_true _ _ h s.fits) kept
 
   carry_behind : up ≡ true → Behind e v' r c
   carry_behind h =
@@ -105,11 +107,11 @@ module _ {V S : Type 0} (e : Eyes V S) (v v' : V) (lawful : Lawful e v) (lawful'
 
   -- what the layer then keeps, and the change that it answers
   module _ (q : Records) (len' : ℕ) (own : Change)
-      (does : MatchBool up ((q ≡ follow r c) × (len' ≡ length (shown (follow r c) (textAt e v'))) × Raises r (textAt e v') c len own) ((q ≡ r) × (len' ≡ length (textAt e v')) × (own ≡ c))) where
-    did : up ≡ true → (q ≡ follow r c) × (len' ≡ length (shown (follow r c) (textAt e v'))) × Raises r (textAt e v') c len own
+      (does : MatchBool up ((q ≡ follow r c) × (len' ≡ length (shown (follow r c) (text_at e v'))) × Raises r (text_at e v') c len own) ((q ≡ r) × (len' ≡ length (text_at e v')) × (own ≡ c))) where
+    did : up ≡ true → (q ≡ follow r c) × (len' ≡ length (shown (follow r c) (text_at e v'))) × Raises r (text_at e v') c len own
     did h = when_true _ _ h does
 
-    slept : up ≡ false → (q ≡ r) × (len' ≡ length (textAt e v')) × (own ≡ c)
+    slept : up ≡ false → (q ≡ r) × (len' ≡ length (text_at e v')) × (own ≡ c)
     slept h = when_false _ _ h does
 
     asleep_then : up ≡ false → awake e.most r (e.stack v') ≡ false
@@ -122,25 +124,25 @@ module _ {V S : Type 0} (e : Eyes V S) (v v' : V) (lawful : Lawful e v) (lawful'
         (λ h. (slept h).0 ∙ sym (cond-false (awake e.most r (e.stack v)) _ _ (sym s.knows ∙ h)))
         (cases_Bool up)
 
-    len_then : up ≡ true → len ≡ length (shown r (textAt e v))
+    len_then : up ≡ true → len ≡ length (shown r (text_at e v))
     len_then h = s.sized ∙ ap length (text_awake e.most r (e.stack v) (e.doc v) (sym s.knows ∙ h))
 
-    own_awake : up ≡ true → own ≡ raised r (textAt e v) (textAt e v') c
-    own_awake h = (did h).2 (textAt e v) (when_true _ _ h s.fits) kept (len_then h)
+    own_awake : up ≡ true → own ≡ raised r (text_at e v) (text_at e v') c
+    own_awake h = (did h).2 (text_at e v) (when_true _ _ h s.fits) kept (len_then h)
 
-    pub carried_change : own ≡ cond (awake e.most r (e.stack v)) (raised r (textAt e v) (textAt e v') c) c
+    pub carried_change : own ≡ cond (awake e.most r (e.stack v)) (raised r (text_at e v) (text_at e v') c) c
     carried_change =
         ⊎_elim
         (λ h. own_awake h ∙ sym (cond-true (awake e.most r (e.stack v)) _ _ (sym s.knows ∙ h)))
         (λ h. (slept h).2 ∙ sym (cond-false (awake e.most r (e.stack v)) _ _ (sym s.knows ∙ h)))
         (cases_Bool up)
 
-    text_then_awake : up ≡ true → text_of e.most (q ∷ e.stack v') (e.doc v') ≡ shown (follow r c) (textAt e v')
+    text_then_awake : up ≡ true → text_of e.most (q ∷ e.stack v') (e.doc v') ≡ shown (follow r c) (text_at e v')
     text_then_awake h =
         ap (λ (z : Records). text_of e.most (z ∷ e.stack v') (e.doc v')) (did h).0
         ∙ text_awake e.most (follow r c) (e.stack v') (e.doc v') (follow_awake h)
 
-    text_then_asleep : up ≡ false → text_of e.most (q ∷ e.stack v') (e.doc v') ≡ textAt e v'
+    text_then_asleep : up ≡ false → text_of e.most (q ∷ e.stack v') (e.doc v') ≡ text_at e v'
     text_then_asleep h =
         ap (λ (z : Records). text_of e.most (z ∷ e.stack v') (e.doc v')) (slept h).0
         ∙ text_asleep e.most r (e.stack v') (e.doc v') (asleep_then h)
@@ -156,7 +158,7 @@ module _ {V S : Type 0} (e : Eyes V S) (v v' : V) (lawful : Lawful e v) (lawful'
     carried_kept =
         ⊎_elim
         (λ h. moved_kept _ _ _ _ _ _ (text_awake e.most r (e.stack v) (e.doc v) (sym s.knows ∙ h)) (text_then_awake h) (own_awake h)
-        (follow_kept r (textAt e v) (textAt e v') c (when_true _ _ h s.fits) kept))
+        (follow_kept r (text_at e v) (text_at e v') c (when_true _ _ h s.fits) kept))
         (λ h. moved_kept _ _ _ _ _ _ (text_asleep e.most r (e.stack v) (e.doc v) (sym s.knows ∙ h)) (text_then_asleep h) (slept h).2 kept)
         (cases_Bool up)
 
@@ -169,7 +171,7 @@ module _ {V S : Type 0} (e : Eyes V S) (v v' : V) (lawful : Lawful e v) (lawful'
 
     pub carried_sound : Sound e v' q len' top up
     carried_sound =
-        let P : Records → Type 0 = λ z. Fit z (length (textAt e v')) in
+        let P : Records → Type 0 = λ z. Fit z (length (text_at e v')) in
         record {
           below = lawful'.sound;
           knows = s.knows ∙ sym (same_awake e.most r q (e.stack v) (e.stack v') same_kind low);
@@ -193,8 +195,8 @@ module _ {V S : Type 0} (e : Eyes V S) (v v' : V) (lawful : Lawful e v) (lawful'
         → own ≡ (carried e.most r (e.stack v) (e.doc v) (e.doc v') lower).change
     same_change lower p i =
         carried_change
-        ∙ ap (λ (z : Change). cond (awake e.most r (e.stack v)) (raised r (textAt e v) (textAt e v') z) z) p
-        ∙ ap (λ (z : List Records). cond (awake e.most r (e.stack v)) (raised r (textAt e v) (text_of e.most z (e.doc v')) lower.change) lower.change) i
+        ∙ ap (λ (z : Change). cond (awake e.most r (e.stack v)) (raised r (text_at e v) (text_at e v') z) z) p
+        ∙ ap (λ (z : List Records). cond (awake e.most r (e.stack v)) (raised r (text_at e v) (text_of e.most z (e.doc v')) lower.change) lower.change) i
 
     pub carried_whole : (lower : Changed) → c ≡ lower.change → e.stack v' ≡ lower.stack → (b : V) (top' : ℕ) (up' : Bool) → b ≡ v' → top' ≡ top → up' ≡ up → Carried e v r b q len' top' up' lower own
     carried_whole lower p i b top' up' x y z =

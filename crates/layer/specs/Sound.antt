@@ -3,7 +3,7 @@ use Rattle.std.specs.Prelude.{◌≡◌, ℕ, Bool, ◌∷◌, length, MatchBool
 use Rattle.view.specs.Layers.{Records, Fit}
 use Rattle.view.specs.Stacks.{text_of, ceiling_of, awake}
 use Rattle.view.specs.declared.view.View.{Ghosts as Eyes}
-use Rattle.view.specs.Seen.{textAt}
+use Rattle.view.specs.Seen.{text_at}
 
 -- a layer with the records r over the view v: its length and its ceiling are those of its text, it knows whether it is
 -- awake, and its records fit if it is
@@ -12,4 +12,4 @@ pub record Sound {V S : Type 0} (e : Eyes V S) (v : V) (r : Records) (len top : 
   pub knows : up ≡ awake e.most r (e.stack v)
   pub sized : len ≡ length (text_of e.most (r ∷ e.stack v) (e.doc v))
   pub topped : top ≡ ceiling_of e.most (r ∷ e.stack v)
-  pub fits : MatchBool up (Fit r (length (textAt e v))) (Unit {0})
+  pub fits : MatchBool up (Fit r (length (text_at e v))) (Unit {0})

@@ -7,7 +7,7 @@ use Rattle.places.specs.declared.change.Change.{Change}
 use Rattle.places.specs.Maps.{Finds}
 use Rattle.places.proofs.Finding.{searches_find, composed, first_found, last_found}
 use Rattle.view.specs.declared.order.Order.{Order}
-use Rattle.view.specs.Layers.{hint, fold, Records, marks, tabs, wrap, shown, under, first, last, growth, Fit, follow}
+use Rattle.view.specs.Layers.{Records, hints, folds, tabs, wrap, shown, under, first, last, growth, Fit, follow}
 use Rattle.view.specs.Orders.{obeyed}
 use Rattle.view.specs.Stacks.{ceiling_of, awake, text_of, under_of, first_place, last_place, AllFit, Means, after_edit, after_order}
 use Rattle.layer.specs.Fitting.{fit_finds, grown_length, follow_growth}
@@ -119,8 +119,8 @@ carried_growth true r c n = follow_growth r c n
 carried_growth false r c n = refl
 
 pub obeyed_growth : (r : Records) (a b : ℕ) (o : Order) (w : List ℕ) (n : ℕ) → growth (obeyed r a b o w) n ≡ growth r n
-obeyed_growth (marks hint ms) a b o w n = refl
-obeyed_growth (marks fold ms) a b o w n = refl
+obeyed_growth (hints ms) a b o w n = refl
+obeyed_growth (folds ms) a b o w n = refl
 obeyed_growth (tabs v) a b o w n = refl
 obeyed_growth (wrap v) a b o w n = refl
 

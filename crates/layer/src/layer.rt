@@ -6,7 +6,7 @@
 // kept as numbers and cost nothing.
 ghost use Rattle.std.specs.Prelude.{◌≡◌, ◌≤◌, ◌∷◌, length, if◌then◌else◌, MatchBool, nat_le};
 ghost use Rattle.view.specs.Layers.{shown, growth, follow as followed};
-ghost use Rattle.view.specs.Seen.{textAt};
+ghost use Rattle.view.specs.Seen.{text_at};
 ghost use Rattle.view.specs.Kinds.{Over, Behind, Raises};
 ghost use Rattle.layer.specs.Sound.{Sound};
 ghost use Rattle.std.proofs.Common.{rules};
@@ -51,7 +51,7 @@ impl<V: View, K: Kind> Layer<V, K> {
         requires over { MatchBool self.old.awake (Over V.View self.old.below (followed (K.Kind.records self.old.kind) change)) (Unit {0}) }
         ensures below { self.new.below ≡ self.old.below }
         ensures numbers { (self.new.ceiling ≡ self.old.ceiling) × (self.new.awake ≡ self.old.awake) }
-        ensures awake { MatchBool self.old.awake ((K.Kind.records self.new.kind ≡ followed (K.Kind.records self.old.kind) change) × (self.new.len ≡ length (shown (followed (K.Kind.records self.old.kind) change) (textAt V.View self.old.below))) × Raises (K.Kind.records self.old.kind) (textAt V.View self.old.below) change self.old.len result) ((K.Kind.records self.new.kind ≡ K.Kind.records self.old.kind) × (self.new.len ≡ length (textAt V.View self.old.below)) × (result ≡ change)) }
+        ensures awake { MatchBool self.old.awake ((K.Kind.records self.new.kind ≡ followed (K.Kind.records self.old.kind) change) × (self.new.len ≡ length (shown (followed (K.Kind.records self.old.kind) change) (text_at V.View self.old.below))) × Raises (K.Kind.records self.old.kind) (text_at V.View self.old.below) change self.old.len result) ((K.Kind.records self.new.kind ≡ K.Kind.records self.old.kind) × (self.new.len ≡ length (text_at V.View self.old.below)) × (result ≡ change)) }
     {
         if !self.awake {
             self.len = self.below.len();

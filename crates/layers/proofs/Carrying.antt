@@ -1,19 +1,20 @@
 -- Orders that a kind with a table of records carries out or refuses. Assumes nothing.
-use Rattle.std.proofs.Common.{◌≡◌, ℕ, ◌-◌, ◌≤◌, Bool, true, false, ◌||◌, eqb, ltb, List, [], ◌∷◌, length, Some, None, Ok, Err, Result, sym, refl, ap, ◌∙◌, subst, arith}
+use Rattle.std.proofs.Common.{◌≡◌, ℕ, ◌-◌, ◌≤◌, Bool, true, false, cond, ◌||◌, eqb, ltb, List, [], ◌∷◌, length, Some, None, Ok, Err, Result, sym, refl, ap, ◌∙◌, subst, arith}
 use Rattle.std.specs.List.{AllByRecursion}
 use Rattle.std.proofs.lemmas.Bool.Decides.{nat_tests}
 use Rattle.std.proofs.lemmas.Bool.{cond-true, cond-false, le-ltb}
 use Rattle.buffer.specs.declared.fault.Refusal.{Refusal}
 use Rattle.places.specs.declared.change.Change.{Change}
-use Rattle.places.specs.Marks.{Mark, past, Placed}
+use Rattle.places.specs.Marks.{Mark, past, put, Placed}
 use Rattle.places.proofs.Placing.{placed_le, placed_parts}
 use Rattle.view.specs.declared.fault.Cause.{Cause}
 use Rattle.view.specs.declared.order.Order.{Order}
 use Rattle.view.specs.Refusals.{first_cause}
-use Rattle.view.specs.Layers.{MarkKind, hint, fold, marks}
-use Rattle.view.specs.Orders.{adds, meets, some, first_mark, new_mark, add_start, add_causes}
+use Rattle.view.specs.Layers.{Records, hints, folds, tabs, wrap, marks_in, first}
+use Rattle.view.specs.Orders.{adds, meets, some, first_mark, without, new_mark, with_marks, obeyed, add_start, add_causes, obeyed_change}
 use Rattle.view.specs.Kinds.{Carries}
 use Rattle.layer.proofs.Marking.{Around, around}
+use Rattle.layer.proofs.Obeying.{KeepsMarks}
 use Rattle.tables.specs.Placing.{first_over, Counted}
 use Rattle.layers.specs.Ordering.{gone_change, Adds, Removes}
 use Rattle.layers.proofs.Fitting.{same_change}
@@ -53,31 +54,61 @@ pub removes_in : {T K : Type 0} (f : T → K) (p : Mark → Bool) (ms ms' : List
 removes_in f p ms ms' t t' place (Ok c) h = h
 removes_in f p ms ms' t t' place (Err c) h = (h.0, ap f h.1)
 
+-- what an order makes of marks, and how it changes the text
+obeyed_marks : (r : Records) → KeepsMarks r → (a b : ℕ) (o : Order) (w : List ℕ)
+    → obeyed r a b o w ≡ with_marks r (cond (adds r o.verb) (put (new_mark r a b w) (marks_in r)) (without (meets r a) (marks_in r)))
+obeyed_marks (hints ms) m a b o w = refl
+obeyed_marks (folds ms) m a b o w = refl
+obeyed_marks (tabs v) m a b o w = absurd m
+obeyed_marks (wrap v) m a b o w = absurd m
+
+abbrev marks_change : Records → List ℕ → ℕ → ℕ → Order → List ℕ → Change
+marks_change r xs a b o w =
+    record {
+      start = cond (adds r o.verb) (add_start r xs a) (first_over (marks_in r) xs (first_mark (meets r a) (marks_in r)).at);
+      old = cond (adds r o.verb) (new_mark r a b w).takes (length (first_mark (meets r a) (marks_in r)).shows);
+      new = cond (adds r o.verb) (length (new_mark r a b w).shows) (first_mark (meets r a) (marks_in r)).takes;
+    }
+
+changed_marks : (r : Records) → KeepsMarks r → (xs : List ℕ) (a b : ℕ) (o : Order) (w : List ℕ) → obeyed_change r xs a b o w ≡ marks_change r xs a b o w
+changed_marks (hints ms) m xs a b o w = refl
+changed_marks (folds ms) m xs a b o w = refl
+changed_marks (tabs v) m xs a b o w = absurd m
+changed_marks (wrap v) m xs a b o w = absurd m
+
 -- an order to marks whose place x lies in the document, at a of the text below
-module _ {K : Type 0} (m : MarkKind) (ms ms' : List Mark) (k k' : K) (xs : List ℕ) (n a b : ℕ) (o : Order) (w : List ℕ) where
+module _ {K : Type 0} (r : Records) (m : KeepsMarks r) (ms' : List Mark) (k k' : K) (xs : List ℕ) (n a b : ℕ) (o : Order) (w : List ℕ) where
   -- with the verb that removes
-  pub removes : adds m o.verb ≡ false → o.x ≤ n → Counted ms xs
-      → (x : Result Change Cause) → Removes (meets m a) ms ms' k k' o.x x → Carries (marks m ms) (marks m ms') k k' xs n a b o w x
+  pub removes : adds r o.verb ≡ false → o.x ≤ n → Counted (marks_in r) xs
+      → (x : Result Change Cause) → Removes (meets r a) (marks_in r) ms' k k' o.x x → Carries r (with_marks r ms') k k' xs n a b o w x
   removes less inside ok (Ok c) h = (
-    cond-false (adds m o.verb) _ _ less ∙ cond-false (ltb n o.x) _ _ (le-ltb n o.x inside) ∙ h.0,
-    ap (marks m) (h.1 ∙ sym (cond-false (adds m o.verb) _ _ less)),
-    h.2 xs (omega arith) ok ∙ same_change _ _ _ _ _ _ (sym (cond-false (adds m o.verb) _ _ less)) (sym (cond-false (adds m o.verb) _ _ less)) (sym (cond-false (adds m o.verb) _ _ less)),
+    cond-false (adds r o.verb) _ _ less ∙ cond-false (ltb n o.x) _ _ (le-ltb n o.x inside) ∙ h.0,
+    ap (with_marks r) (h.1 ∙ sym (cond-false (adds r o.verb) _ _ less)) ∙ sym (obeyed_marks r m a b o w),
+    (let e : c ≡ marks_change r xs a b o w =
+        h.2 xs (omega arith) ok
+        ∙ same_change _ _ _ _ _ _ (sym (cond-false (adds r o.verb) _ _ less)) (sym (cond-false (adds r o.verb) _ _ less)) (sym (cond-false (adds r o.verb) _ _ less)) in
+        e ∙ sym (changed_marks r m xs a b o w)),
   )
-  removes less inside ok (Err f) h = (cond-false (adds m o.verb) _ _ less ∙ cond-false (ltb n o.x) _ _ (le-ltb n o.x inside) ∙ h.0, h.1)
+  removes less inside ok (Err f) h = (cond-false (adds r o.verb) _ _ less ∙ cond-false (ltb n o.x) _ _ (le-ltb n o.x inside) ∙ h.0, h.1)
 
   -- with the verb that adds
-  added_at : (s : ℕ) → s ≡ add_start m ms xs (new_mark m a b w).at → s ≡ add_start m ms xs a
-  added_at s e = e ∙ ap (add_start m ms xs) (at_is m)
+  added_at : (s : ℕ) → s ≡ add_start r xs (new_mark r a b w).at → s ≡ add_start r xs a
+  added_at s e = e ∙ ap (add_start r xs) (at_is r)
     where
-      at_is : (q : MarkKind) → (new_mark q a b w).at ≡ a
-      at_is hint = refl
-      at_is fold = refl
+      at_is : (q : Records) → (new_mark q a b w).at ≡ a
+      at_is (hints _) = refl
+      at_is (folds _) = refl
+      at_is (tabs _) = refl
+      at_is (wrap _) = refl
 
-  pub adding : (causes : List (Bool × Refusal)) → adds m o.verb ≡ true → first_cause (add_causes m ms n a b o w) ≡ first_cause causes → a ≤ length xs → Counted ms xs
-      → (x : Result Change Cause) → Adds m ms causes ms' k k' a b w x → Carries (marks m ms) (marks m ms') k k' xs n a b o w x
+  pub adding : (causes : List (Bool × Refusal)) → adds r o.verb ≡ true → first_cause (add_causes r n a b o w) ≡ first_cause causes → a ≤ length xs → Counted (marks_in r) xs
+      → (x : Result Change Cause) → Adds r causes ms' k k' a b w x → Carries r (with_marks r ms') k k' xs n a b o w x
   adding causes more same le ok (Ok c) h = (
-    cond-true (adds m o.verb) _ _ more ∙ same ∙ h.0,
-    ap (marks m) (h.1 ∙ sym (cond-true (adds m o.verb) _ _ more)),
-    h.2 xs le ok ∙ same_change _ _ _ _ _ _ (added_at _ refl ∙ sym (cond-true (adds m o.verb) _ _ more)) (sym (cond-true (adds m o.verb) _ _ more)) (sym (cond-true (adds m o.verb) _ _ more)),
+    cond-true (adds r o.verb) _ _ more ∙ same ∙ h.0,
+    ap (with_marks r) (h.1 ∙ sym (cond-true (adds r o.verb) _ _ more)) ∙ sym (obeyed_marks r m a b o w),
+    (let e : c ≡ marks_change r xs a b o w =
+        h.2 xs le ok
+        ∙ same_change _ _ _ _ _ _ (added_at _ refl ∙ sym (cond-true (adds r o.verb) _ _ more)) (sym (cond-true (adds r o.verb) _ _ more)) (sym (cond-true (adds r o.verb) _ _ more)) in
+        e ∙ sym (changed_marks r m xs a b o w)),
   )
-  adding causes more same le ok (Err f) h = (cond-true (adds m o.verb) _ _ more ∙ same ∙ h.0, h.1)
+  adding causes more same le ok (Err f) h = (cond-true (adds r o.verb) _ _ more ∙ same ∙ h.0, h.1)

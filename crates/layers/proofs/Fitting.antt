@@ -8,9 +8,10 @@ use Rattle.places.specs.Marks.{Mark, past, Placed, lowest, highest}
 use Rattle.places.proofs.Following.{highest_le}
 use Rattle.places.proofs.Keeping.{keeps_length}
 use Rattle.places.proofs.Placing.{placed_le}
-use Rattle.view.specs.Layers.{MarkKind, hint, fold, marks, hints, folds, Fit, raised}
+use Rattle.places.proofs.Laying.{laid_length}
+use Rattle.view.specs.Layers.{Records, hints, folds, tabs, wrap, marks_in, Fit, raised}
 use Rattle.view.specs.declared.view.View.{Ghosts as Eyes}
-use Rattle.view.specs.Seen.{textAt}
+use Rattle.view.specs.Seen.{text_at}
 use Rattle.view.specs.Kinds.{Over, Behind}
 use Rattle.layer.specs.Fitting.{fit_placed, grown_length}
 use Rattle.tables.specs.Records.{Room}
@@ -25,31 +26,36 @@ rooms c [] p n h a b d = tt
 rooms c (m ∷ ms) p n h a b d = let le = placed_le ms (past m) n h.2 in ((omega arith, omega arith), rooms c ms (past m) n h.2 a b d)
 
 -- both texts can be counted where the one below is short enough
-counted : (k : MarkKind) (ms : List Mark) (xs : List ℕ) → Fit (marks k ms) (length xs) → length xs ≤ 1073741824 → Counted ms xs
-counted hint ms xs f h = let g = grown_length (hints ms) xs (length xs) f (omega arith) in (f.0, omega arith, omega arith)
-counted fold ms xs f h = let g = grown_length (folds ms) xs (length xs) f (omega arith) in (f.0, omega arith, omega arith)
+counted_none : (xs : List ℕ) → length xs ≤ 1073741824 → Counted [] xs
+counted_none xs h = let e = laid_length [] xs (omega arith) in (omega arith, omega arith, omega arith)
 
-module _ {V S : Type 0} (e : Eyes V S) (v : V) (k : MarkKind) (ms : List Mark) where
-  pub over_counted : Over e v (marks k ms) → Counted ms (textAt e v)
-  over_counted o = counted k ms (textAt e v) o.fit o.low
+counted : (r : Records) (xs : List ℕ) → Fit r (length xs) → length xs ≤ 1073741824 → Counted (marks_in r) xs
+counted (hints ms) xs f h = let g = grown_length (hints ms) xs (length xs) f (omega arith) in (f.0, omega arith, omega arith)
+counted (folds ms) xs f h = let g = grown_length (folds ms) xs (length xs) f (omega arith) in (f.0, omega arith, omega arith)
+counted (tabs w) xs f h = counted_none xs h
+counted (wrap w) xs f h = counted_none xs h
 
-  module _ (c : Change) (b : Behind e v (marks k ms) c) where
-    pub behind_rooms : AllByRecursion (Room c) ms
+module _ {V S : Type 0} (e : Eyes V S) (v : V) (r : Records) where
+  pub over_counted : Over e v r → Counted (marks_in r) (text_at e v)
+  over_counted o = counted r (text_at e v) o.fit o.low
+
+  module _ (c : Change) (b : Behind e v r c) where
+    pub behind_rooms : AllByRecursion (Room c) (marks_in r)
     behind_rooms =
         let new = b.new_fits in
         let old = b.old_fits in
         let low = b.low in
         let was = b.was in
-        rooms c ms 0 (length (textAt e v) + c.old - c.new) (fit_placed k ms _ b.fit) was (omega arith) (omega arith)
+        rooms c (marks_in r) 0 (length (text_at e v) + c.old - c.new) (fit_placed r _ b.fit) was (omega arith) (omega arith)
 
-    pub behind_reach : highest c.start c.old ms ≤ length (textAt e v) + c.old - c.new
-    behind_reach = highest_le c.start c.old (length (textAt e v) + c.old - c.new) ms (fit_placed k ms _ b.fit) b.old_fits
+    pub behind_reach : highest c.start c.old (marks_in r) ≤ length (text_at e v) + c.old - c.new
+    behind_reach = highest_le c.start c.old (length (text_at e v) + c.old - c.new) (marks_in r) (fit_placed r _ b.fit) b.old_fits
 
-    pub behind_counted : (xs : List ℕ) → Fit (marks k ms) (length xs) → Kept xs (textAt e v) c → Counted ms xs
+    pub behind_counted : (xs : List ℕ) → Fit r (length xs) → Kept xs (text_at e v) c → Counted (marks_in r) xs
     behind_counted xs fit kept =
-        let long = keeps_length xs (textAt e v) c.start c.old c.new kept in
+        let long = keeps_length xs (text_at e v) c.start c.old c.new kept in
         let was = b.was in
-        counted k ms xs fit (omega arith)
+        counted r xs fit (omega arith)
 
 -- the change that hints answer
 pub hints_raised : (ms : List Mark) (xs ys : List ℕ) (c : Change) (start old : ℕ) → start ≡ last_over ms xs c.start → (c.old ≡ 0 → old ≡ 0)

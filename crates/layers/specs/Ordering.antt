@@ -8,7 +8,7 @@ use Rattle.places.specs.declared.change.Change.{Change}
 use Rattle.places.specs.Marks.{Mark, put}
 use Rattle.view.specs.declared.fault.Cause.{Cause}
 use Rattle.view.specs.Refusals.{cause_refusal, first_cause}
-use Rattle.view.specs.Layers.{MarkKind, most_records, longest_hint}
+use Rattle.view.specs.Layers.{Records, marks_in, most_records, longest_hint}
 use Rattle.view.specs.Orders.{is_hint_code, overlaps, some, first_mark, without, full, new_mark, add_change}
 use Rattle.tables.specs.Placing.{first_over, Counted}
 
@@ -37,9 +37,9 @@ Meets causes ms ms' next k k' l change x =
     (λ c. (first_cause causes ≡ None) × (ms' ≡ next) × ((xs : List ℕ) → l ≤ length xs → Counted ms xs → c ≡ change xs))
     (λ f. (first_cause causes ≡ Some (cause_refusal f)) × (k' ≡ k))
 
--- an order with one of these causes that adds a mark of the kind m, at a, to the marks ms
-abbrev pub Adds : {K : Type 0} → MarkKind → List Mark → List (Bool × Refusal) → List Mark → K → K → ℕ → ℕ → List ℕ → Result Change Cause → Type 0
-Adds m ms causes ms' k k' a b w x = Meets causes ms ms' (put (new_mark m a b w) ms) k k' a (λ xs. add_change m ms xs (new_mark m a b w)) x
+-- an order with one of these causes that adds a record, at a, to the records r
+abbrev pub Adds : {K : Type 0} → Records → List (Bool × Refusal) → List Mark → K → K → ℕ → ℕ → List ℕ → Result Change Cause → Type 0
+Adds r causes ms' k k' a b w x = Meets causes (marks_in r) ms' (put (new_mark r a b w) (marks_in r)) k k' a (λ xs. add_change r xs (new_mark r a b w)) x
 
 -- an order for the document place x that removes the first mark that passes
 abbrev pub gone_change : List Mark → Mark → List ℕ → Change

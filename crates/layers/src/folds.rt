@@ -2,7 +2,7 @@
 // above one pass for each of them.
 ghost use Rattle.std.specs.Prelude.{◌≡◌, ◌+◌, ◌<◌, []};
 ghost use Rattle.places.specs.Marks.{dropped, lowest, highest};
-ghost use Rattle.view.specs.Layers.{fold, folds};
+ghost use Rattle.view.specs.Layers.{folds};
 ghost use Rattle.tables.specs.Folds.{fold_mark};
 ghost use Rattle.tables.specs.Tables.{marks_of};
 ghost use Rattle.layers.specs.Ordering.{fold_causes, Adds};
@@ -54,7 +54,7 @@ fn reach<R: Record>(table: &Table<R>, change: Change) -> (u32, u32)
 impl Folds {
     // Folds the codes of the text below from `a` to `b`, on an order for the document place `x`.
     fn add(&mut self, a: u32, b: u32, x: u32) -> Result<Change, Cause>
-        ensures { Adds fold (marks_of fold_mark self.old.table) (fold_causes (marks_of fold_mark self.old.table) a b x) (marks_of fold_mark self.new.table) self.old self.new a b [] result }
+        ensures { Adds (folds (marks_of fold_mark self.old.table)) (fold_causes (marks_of fold_mark self.old.table) a b x) (marks_of fold_mark self.new.table) self.old self.new a b [] result }
     {
         if b <= a || any(&self.table, Sought::Overlapping { start: a, end: b }) {
             return Err(Cause::BadFold { place: x });

@@ -2,7 +2,7 @@
 // text above one pass for each of them.
 ghost use Rattle.std.specs.Prelude.{◌≡◌, []};
 ghost use Rattle.std.specs.List.{prefix_len};
-ghost use Rattle.view.specs.Layers.{hint, hints};
+ghost use Rattle.view.specs.Layers.{hints};
 ghost use Rattle.view.specs.Orders.{is_hint_code};
 ghost use Rattle.tables.specs.Hints.{hint_mark};
 ghost use Rattle.tables.specs.Tables.{marks_of};
@@ -49,7 +49,7 @@ fn hint_front(w: &[u32]) -> usize
 impl Hints {
     // Adds a hint of the codes `w` at the place `l` of the text below, behind those that stand there.
     fn add(&mut self, l: u32, w: &[u32]) -> Result<Change, Cause>
-        ensures { Adds hint (marks_of hint_mark self.old.table) (hint_causes (marks_of hint_mark self.old.table) w.now) (marks_of hint_mark self.new.table) self.old self.new l l w.now result }
+        ensures { Adds (hints (marks_of hint_mark self.old.table)) (hint_causes (marks_of hint_mark self.old.table) w.now) (marks_of hint_mark self.new.table) self.old self.new l l w.now result }
     {
         let hint = match Hint::new(l, w) {
             Some(hint) => hint,

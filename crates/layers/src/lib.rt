@@ -1,4 +1,4 @@
-// The kinds of layers: inlay hints and folds.
+// The kinds of layers with records: inlay hints and folds.
 #![tactic(auto)]
 
 mod finding;

@@ -10,7 +10,7 @@ use Rattle.lines.proofs.Scanning.{text_grows}
 use Rattle.lines.proofs.Steadiness.{tabs_shown_le, wrap_shown_le}
 use Rattle.lines.proofs.Wrapping.{row_most}
 use Rattle.view.specs.declared.view.View.{Ghosts as Eyes}
-use Rattle.view.specs.Seen.{textAt}
+use Rattle.view.specs.Seen.{text_at}
 use Rattle.view.specs.Layers.{tabs, wrap}
 use Rattle.view.specs.Kinds.{Over, Behind}
 use Rattle.view.specs.declared.order.Order.{Order}
@@ -33,11 +33,11 @@ width_taken low high o a b = grind (arith, nat_tests)
 
 module _ {V S : Type 0} (e : Eyes V S) (v : V) where
   -- with any width that the kind takes
-  tabs_walk : (w : ℕ) → 1 ≤ w → w ≤ 16 → e.sound v → length (textAt e v) ≤ 1073741824 → 16 * length (textAt e v) ≤ 1073741824 → Walkable e v (tab_stops w)
-  tabs_walk w a b s l r = record { sound = s; low = l; high = omega (arith, text_grows (tab_stops w) 16 (λ k x. tabs_shown_le w k x b a) (textAt e v)) }
+  tabs_walk : (w : ℕ) → 1 ≤ w → w ≤ 16 → e.sound v → length (text_at e v) ≤ 1073741824 → 16 * length (text_at e v) ≤ 1073741824 → Walkable e v (tab_stops w)
+  tabs_walk w a b s l r = record { sound = s; low = l; high = omega (arith, text_grows (tab_stops w) 16 (λ k x. tabs_shown_le w k x b a) (text_at e v)) }
 
-  wrap_walk : (w : ℕ) → e.sound v → length (textAt e v) ≤ 1073741824 → 2 * length (textAt e v) ≤ 1073741824 → Walkable e v (soft_wrap (row_length w))
-  wrap_walk w s l r = record { sound = s; low = l; high = omega (arith, text_grows (soft_wrap (row_length w)) 2 (wrap_shown_le (row_length w)) (textAt e v)) }
+  wrap_walk : (w : ℕ) → e.sound v → length (text_at e v) ≤ 1073741824 → 2 * length (text_at e v) ≤ 1073741824 → Walkable e v (soft_wrap (row_length w))
+  wrap_walk w s l r = record { sound = s; low = l; high = omega (arith, text_grows (soft_wrap (row_length w)) 2 (wrap_shown_le (row_length w)) (text_at e v)) }
 
   pub tabs_over : (w x : ℕ) → 1 ≤ x → x ≤ 16 → Over e v (tabs w) → Walkable e v (tab_stops x)
   tabs_over w x a b o = tabs_walk x a b o.sound o.low o.room

@@ -1,7 +1,7 @@
 // How a line is broken into rows: one function of the codes, the width and the place at which a row begins.
 ghost use Rattle.std.specs.Prelude.{◌≡◌};
 ghost use Rattle.lines.specs.Wraps.{row_end};
-ghost use Rattle.view.specs.Seen.{textAt};
+ghost use Rattle.view.specs.Seen.{text_at};
 
 use codes::code::{SPACE, is_row_end};
 use view::reading::code_at;
@@ -12,7 +12,7 @@ use view::view::View;
 // the row and one more.
 pub fn row_end<V: View>(below: &V, width: u32, start: u32) -> u32
     requires { V.View.sound below.now }
-    ensures { result ≡ row_end width (textAt V.View below.now) start }
+    ensures { result ≡ row_end width (text_at V.View below.now) start }
 {
     let len = below.len();
     if start >= len {

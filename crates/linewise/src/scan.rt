@@ -1,7 +1,7 @@
 // A kind of layer that goes through the text below code by code, in a state that begins anew with each line.
 ghost use Rattle.std.specs.Prelude.{◌≡◌, ◌+◌, ◌<◌, ◌≤◌, length, drop, slice_index};
 ghost use Rattle.lines.specs.Transducers.{Transducer, Steady};
-ghost use Rattle.view.specs.Seen.{textAt};
+ghost use Rattle.view.specs.Seen.{text_at};
 ghost use Rattle.linewise.specs.Scans.{Bounded};
 
 use view::view::View;
@@ -12,7 +12,7 @@ pub trait Scan: Sized {
     // The state before the text.
     fn start<V: View>(&self, below: &V) -> u32
         requires { V.View.sound below.now }
-        ensures { result ≡ (transducer self.now).start (textAt V.View below.now) };
+        ensures { result ≡ (transducer self.now).start (text_at V.View below.now) };
 
     // How many codes are shown of `code`. Constant time.
     fn size(&self, state: u32, code: u32) -> u32
@@ -26,10 +26,10 @@ pub trait Scan: Sized {
     // The state behind `code`, which stands at `i`.
     fn next<V: View>(&self, state: u32, code: u32, below: &V, i: u32) -> u32
         requires sound { V.View.sound below.now }
-        requires within { i < length (textAt V.View below.now) }
-        requires there { code ≡ slice_index (textAt V.View below.now) i }
+        requires within { i < length (text_at V.View below.now) }
+        requires there { code ≡ slice_index (text_at V.View below.now) i }
         requires small { state ≤ 1073741824 + 1024 }
-        ensures { result ≡ (transducer self.now).next state code (drop (i + 1) (textAt V.View below.now)) };
+        ensures { result ≡ (transducer self.now).next state code (drop (i + 1) (text_at V.View below.now)) };
 
     ghost steady: { (s : Self) → Steady (transducer s) };
 

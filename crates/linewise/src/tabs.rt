@@ -2,7 +2,7 @@
 // the place asked for; a change walks all of it.
 ghost use Rattle.std.specs.Prelude.{◌≡◌, ◌≤◌};
 ghost use Rattle.lines.specs.Tabs.{tab_stops};
-ghost use Rattle.view.specs.Layers.{tabs as tabRecords};
+ghost use Rattle.view.specs.Layers.{tabs as tab_records};
 ghost use Rattle.lines.proofs.Steadiness.{tabs_steady};
 ghost use Rattle.linewise.specs.Widths.{tabs_bounded};
 ghost use Rattle.std.proofs.Common.{rules};
@@ -62,9 +62,9 @@ impl Scan for Stops {
 }
 
 impl Kind for Tabs {
-    ghost records = { λ t. tabRecords t.width };
+    ghost records = { λ t. tab_records t.width };
 
-    ghost initial = { tabRecords 8 };
+    ghost initial = { tab_records 8 };
 
     ghost grows = { Prim.search rules };
 

@@ -3,7 +3,7 @@
 ghost use Rattle.std.specs.Prelude.{◌≡◌, ◌+◌, ◌-◌, ◌≤◌, length, slice_index};
 ghost use Rattle.lines.specs.Lines.{line_end};
 ghost use Rattle.lines.specs.Transducers.{text_by, place_by, first_by, last_by, reach_by};
-ghost use Rattle.view.specs.Seen.{textAt};
+ghost use Rattle.view.specs.Seen.{text_at};
 ghost use Rattle.linewise.specs.Scans.{Walkable};
 
 use crate::scan::Scan;
@@ -21,8 +21,8 @@ pub struct Spot {
 // How many codes are shown of the first `l` codes below: the first place that lies at or behind `l`.
 pub fn reach<S: Scan, V: View>(scan: &S, below: &V, l: u32) -> u32
     requires walkable { Walkable V.View below.now (S.Scan.transducer scan.now) }
-    requires within { l ≤ length (textAt V.View below.now) }
-    ensures { result ≡ reach_by (S.Scan.transducer scan.now) (textAt V.View below.now) l }
+    requires within { l ≤ length (text_at V.View below.now) }
+    ensures { result ≡ reach_by (S.Scan.transducer scan.now) (text_at V.View below.now) l }
 {
     let mut reach = 0;
     let mut state = scan.start(below);
@@ -37,9 +37,9 @@ pub fn reach<S: Scan, V: View>(scan: &S, below: &V, l: u32) -> u32
 // What stands at the place `u` of the text above.
 pub fn seek<S: Scan, V: View>(scan: &S, below: &V, u: u32) -> Spot
     requires walkable { Walkable V.View below.now (S.Scan.transducer scan.now) }
-    requires within { u ≤ length (text_by (S.Scan.transducer scan.now) (textAt V.View below.now)) }
-    ensures under { result.under ≡ place_by (S.Scan.transducer scan.now) (textAt V.View below.now) u }
-    ensures code { result.code ≡ slice_index (text_by (S.Scan.transducer scan.now) (textAt V.View below.now)) u }
+    requires within { u ≤ length (text_by (S.Scan.transducer scan.now) (text_at V.View below.now)) }
+    ensures under { result.under ≡ place_by (S.Scan.transducer scan.now) (text_at V.View below.now) u }
+    ensures code { result.code ≡ slice_index (text_by (S.Scan.transducer scan.now) (text_at V.View below.now)) u }
 {
     let len = below.len();
     let mut reach = 0;
@@ -65,8 +65,8 @@ pub fn seek<S: Scan, V: View>(scan: &S, below: &V, u: u32) -> Spot
 // The greatest place that lies at or before the place `l` below.
 pub fn last<S: Scan, V: View>(scan: &S, below: &V, l: u32) -> u32
     requires walkable { Walkable V.View below.now (S.Scan.transducer scan.now) }
-    requires within { l ≤ length (textAt V.View below.now) }
-    ensures { result ≡ last_by (S.Scan.transducer scan.now) (textAt V.View below.now) l }
+    requires within { l ≤ length (text_at V.View below.now) }
+    ensures { result ≡ last_by (S.Scan.transducer scan.now) (text_at V.View below.now) l }
 {
     if l < below.len() {
         reach(scan, below, l + 1) - 1
@@ -79,11 +79,11 @@ pub fn last<S: Scan, V: View>(scan: &S, below: &V, l: u32) -> u32
 // its place `from` on to the end of the line that the change ends in.
 pub fn raise<S: Scan, V: View>(scan: &S, below: &V, len: u32, from: u32, change: Change) -> Change
     requires walkable { Walkable V.View below.now (S.Scan.transducer scan.now) }
-    requires within { change.start + change.new ≤ length (textAt V.View below.now) }
-    requires before { from ≤ length (textAt V.View below.now) }
-    ensures start { result.start ≡ reach_by (S.Scan.transducer scan.now) (textAt V.View below.now) from }
-    ensures old { result.old ≡ len - (length (text_by (S.Scan.transducer scan.now) (textAt V.View below.now)) - reach_by (S.Scan.transducer scan.now) (textAt V.View below.now) (line_end (textAt V.View below.now) (change.start + change.new))) - result.start }
-    ensures new { result.new ≡ reach_by (S.Scan.transducer scan.now) (textAt V.View below.now) (line_end (textAt V.View below.now) (change.start + change.new)) - result.start }
+    requires within { change.start + change.new ≤ length (text_at V.View below.now) }
+    requires before { from ≤ length (text_at V.View below.now) }
+    ensures start { result.start ≡ reach_by (S.Scan.transducer scan.now) (text_at V.View below.now) from }
+    ensures old { result.old ≡ len - (length (text_by (S.Scan.transducer scan.now) (text_at V.View below.now)) - reach_by (S.Scan.transducer scan.now) (text_at V.View below.now) (line_end (text_at V.View below.now) (change.start + change.new))) - result.start }
+    ensures new { result.new ≡ reach_by (S.Scan.transducer scan.now) (text_at V.View below.now) (line_end (text_at V.View below.now) (change.start + change.new)) - result.start }
 {
     let end = reach(scan, below, line_end(below, change.start + change.new));
     let behind = reach(scan, below, below.len()).saturating_sub(end);

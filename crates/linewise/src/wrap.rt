@@ -2,7 +2,7 @@
 // asked for, and twice over each row of it; a change walks all of it.
 ghost use Rattle.std.specs.Prelude.{◌≡◌, ◌≤◌};
 ghost use Rattle.lines.specs.Wraps.{row_length, soft_wrap};
-ghost use Rattle.view.specs.Layers.{wrap as wrapRecords};
+ghost use Rattle.view.specs.Layers.{wrap as wrap_records};
 ghost use Rattle.lines.proofs.Steadiness.{wrap_steady};
 ghost use Rattle.linewise.specs.Widths.{wrap_bounded};
 ghost use Rattle.std.proofs.Common.{rules};
@@ -67,9 +67,9 @@ impl Scan for Breaks {
 }
 
 impl Kind for Wrap {
-    ghost records = { λ t. wrapRecords t.width };
+    ghost records = { λ t. wrap_records t.width };
 
-    ghost initial = { wrapRecords 80 };
+    ghost initial = { wrap_records 80 };
 
     ghost grows = { Prim.search rules };
 

@@ -2,7 +2,7 @@
 use Rattle.std.proofs.Common.{◌≡◌, ℕ, zero, suc, ◌+◌, ◌<◌, ◌≤◌, List, [], ◌∷◌, ◌++◌, length, get_or, take, drop, sym, refl, ap, ◌∙◌, arith, take-append-drop}
 use Rattle.std.proofs.lemmas.List.{take_more}
 use Rattle.places.specs.Marks.{Mark, past, Placed, taken_in, shown_in}
-use Rattle.places.proofs.Placing.{placed_le, taken_in_append, shown_in_append}
+use Rattle.places.proofs.Placing.{placed_le, taken_in-append, shown_in-append}
 
 -- the place behind the last mark, or p where there is none
 abbrev pub end_by : ℕ → List Mark → ℕ
@@ -19,20 +19,20 @@ module _ (ms : List Mark) (j : ℕ) (m : Mark) (l : j < length ms) (e : m ≡ ge
   front_more = take_more ms j m l ∙ ap (λ z. take j ms ++ (z ∷ [])) (sym e)
 
   pub taken_more : taken_in (take (j + 1) ms) ≡ taken_in (take j ms) + m.takes
-  taken_more = omega (arith, ap taken_in front_more, taken_in_append (take j ms) (m ∷ []))
+  taken_more = omega (arith, ap taken_in front_more, taken_in-append (take j ms) (m ∷ []))
 
   pub shown_more : shown_in (take (j + 1) ms) ≡ shown_in (take j ms) + length m.shows
-  shown_more = omega (arith, ap shown_in front_more, shown_in_append (take j ms) (m ∷ []))
+  shown_more = omega (arith, ap shown_in front_more, shown_in-append (take j ms) (m ∷ []))
 
   pub end_more : end_by 0 (take (j + 1) ms) ≡ past m
   end_more = ap (end_by 0) front_more ∙ end_push (take j ms) m 0
 
 -- no sum of the first marks is larger than that of all
 pub taken_front : (ms : List Mark) (j : ℕ) → taken_in (take j ms) ≤ taken_in ms
-taken_front ms j = omega (arith, ap taken_in (take-append-drop j ms), taken_in_append (take j ms) (drop j ms))
+taken_front ms j = omega (arith, ap taken_in (take-append-drop j ms), taken_in-append (take j ms) (drop j ms))
 
 pub shown_front : (ms : List Mark) (j : ℕ) → shown_in (take j ms) ≤ shown_in ms
-shown_front ms j = omega (arith, ap shown_in (take-append-drop j ms), shown_in_append (take j ms) (drop j ms))
+shown_front ms j = omega (arith, ap shown_in (take-append-drop j ms), shown_in-append (take j ms) (drop j ms))
 
 -- the marks before an index and those from there on
 pub placed_halves : (ms : List Mark) (j p n : ℕ) → Placed p ms n → Placed p (take j ms) (end_by p (take j ms)) × Placed (end_by p (take j ms)) (drop j ms) n

@@ -8,7 +8,7 @@ use Rattle.places.specs.Changes.{Keeps}
 use Rattle.places.specs.Maps.{first_of, last_of}
 use Rattle.places.specs.Pieces.{shown_text, spans_of, under_by}
 use Rattle.places.specs.Marks.{Mark, laid, Placed, taken_in, shown_in, moved, followed, lowest, highest, ended, unended, Light, Solid}
-use Rattle.places.proofs.Placing.{placed_room, placed_le, placed_from, placed-append, placed_moved, placed_before, moved_same, solid_before, light_taken, taken_in_append, shown_in_append}
+use Rattle.places.proofs.Placing.{placed_room, placed_le, placed_from, placed-append, placed_moved, placed_before, moved_same, solid_before, light_taken, taken_in-append, shown_in-append}
 use Rattle.places.proofs.Reaching.{first_by, last_by, first_is, last_is, first_cut, last_cut}
 use Rattle.places.proofs.Keeping.{keeps_length, keeps_wider}
 use Rattle.places.proofs.Relaying.{relaid_keeps}
@@ -104,8 +104,8 @@ hints_follow ms xs ys s o n g h kept =
     let over = light_beyond s ms g in
     let f₁ = last_cut a r 0 s ha over in
     let e₁ : last_by 0 (a ++ r) s ≡ last_by 0 ms s = ap (λ z. last_by 0 z s) (ended_split s ms) in
-    let r₂ = taken_in_append a d in
-    let r₃ = shown_in_append a d in
+    let r₂ = taken_in-append a d in
+    let r₃ = shown_in-append a d in
     let old : cond (eqb o 0) 0 (F - L) + taken_in d ≡ (c - p) + shown_in d = ⊎_elim
     (λ (z : o ≡ 0).
     let same_s : s + o ≡ s = omega arith in
@@ -149,6 +149,6 @@ folds_follow ms xs ys s o n g h kept =
     let e₁ : first_by 0 (a ++ (d ++ b)) p ≡ first_by 0 ms p = ap (λ z. first_by 0 z p) whole in
     let e₂ : first_by 0 ((a ++ d) ++ b) c ≡ first_by 0 ms c = ap (λ z. first_by 0 z c) (append_assoc a d b ∙ whole) in
     let r₁ = placed_room d p c all.drop in
-    let r₂ = taken_in_append a d in
-    let r₃ = shown_in_append a d in
+    let r₂ = taken_in-append a d in
+    let r₃ = shown_in-append a d in
     follow_keeps ms xs ys s o n h kept _ _ _ (omega arith) (omega arith) refl

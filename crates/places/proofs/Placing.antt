@@ -53,13 +53,13 @@ moved_none (m ∷ ms) o =
     ∙ ap (λ z. m ∷ z) (moved_none ms o)
 
 -- the sums of marks in two parts
-pub taken_in_append : (a b : List Mark) → taken_in (a ++ b) ≡ taken_in a + taken_in b
-taken_in_append [] b = omega arith
-taken_in_append (m ∷ a) b = let rest = taken_in_append a b in omega arith
+pub taken_in-append : (a b : List Mark) → taken_in (a ++ b) ≡ taken_in a + taken_in b
+taken_in-append [] b = omega arith
+taken_in-append (m ∷ a) b = let rest = taken_in-append a b in omega arith
 
-pub shown_in_append : (a b : List Mark) → shown_in (a ++ b) ≡ shown_in a + shown_in b
-shown_in_append [] b = omega arith
-shown_in_append (m ∷ a) b = let rest = shown_in_append a b in omega arith
+pub shown_in-append : (a b : List Mark) → shown_in (a ++ b) ≡ shown_in a + shown_in b
+shown_in-append [] b = omega arith
+shown_in-append (m ∷ a) b = let rest = shown_in-append a b in omega arith
 
 -- marks before a place begin before any place behind it, and marks that take something before the place itself
 pub placed_before : (ms : List Mark) (p c d : ℕ) → Placed p ms c → c < d → AllByRecursion (λ m. m.at < d) ms

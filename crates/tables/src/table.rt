@@ -1,9 +1,9 @@
 // Up to 64 records of one kind, in the order of their places.
-ghost use Rattle.std.specs.Prelude.{◌≡◌, ◌<◌, ◌≤◌, ◌&&◌, ltb, leb, [], ◌∷◌, length, if◌then◌else◌, nat_le, nat_lt};
+ghost use Rattle.std.specs.Prelude.{◌≡◌, ◌<◌, ◌≤◌, ◌&&◌, [], ◌∷◌, length, if◌then◌else◌, nat_le, nat_lt};
 ghost use Rattle.std.specs.List.{prefix_len, AllByRecursion};
 ghost use Rattle.places.specs.Marks.{past, followed};
 ghost use Rattle.tables.specs.Records.{Room};
-ghost use Rattle.tables.specs.Tables.{records_of, marks_of, inserted_at, removed_at, passes as passesOf};
+ghost use Rattle.tables.specs.Tables.{records_of, marks_of, inserted_at, removed_at, passes as passes_of};
 
 use crate::record::Record;
 use places::change::Change;
@@ -25,7 +25,7 @@ enum Search {
 
 // Whether `record` passes a search for `place`. Constant time.
 fn passes<R: Record>(record: &R, search: Search, place: u32) -> bool
-    ensures { result ≡ passesOf search place (R.Record.mark «record».now) }
+    ensures { result ≡ passes_of search place (R.Record.mark «record».now) }
 {
     match search {
         Search::Ended => record.past() <= place,
@@ -120,7 +120,7 @@ impl<R: Record> Table<R> {
 
     // How many records from the front on pass `search` for `place`. One pass.
     fn front(&self, search: Search, place: u32) -> usize
-        ensures { result ≡ prefix_len (passesOf search place) (marks_of R.Record.mark self.now) }
+        ensures { result ≡ prefix_len (passes_of search place) (marks_of R.Record.mark self.now) }
     {
         let records = self.records();
         for (i, record) in records.iter().enumerate() {
@@ -133,21 +133,21 @@ impl<R: Record> Table<R> {
 
     // How many records from the front on end at or before `place`. One pass.
     pub fn ended(&self, place: u32) -> usize
-        ensures { result ≡ prefix_len (λ m. leb (past m) place) (marks_of R.Record.mark self.now) }
+        ensures { result ≡ prefix_len (λ m. nat_le (past m) place) (marks_of R.Record.mark self.now) }
     {
         self.front(Search::Ended, place)
     }
 
     // How many records from the front on begin before `place`. One pass.
     pub fn begun(&self, place: u32) -> usize
-        ensures { result ≡ prefix_len (λ m. ltb m.at place) (marks_of R.Record.mark self.now) }
+        ensures { result ≡ prefix_len (λ m. nat_lt m.at place) (marks_of R.Record.mark self.now) }
     {
         self.front(Search::Begun, place)
     }
 
     // How many records from the front on begin at or before `place`. One pass.
     pub fn reached(&self, place: u32) -> usize
-        ensures { result ≡ prefix_len (λ m. leb m.at place) (marks_of R.Record.mark self.now) }
+        ensures { result ≡ prefix_len (λ m. nat_le m.at place) (marks_of R.Record.mark self.now) }
     {
         self.front(Search::Reached, place)
     }
@@ -216,10 +216,7 @@ mod tests {
                 assert_eq!(rt; place(&table, 1), 9);
                 Ok(())
             }
-            _ => {
-                assert!(rt; false);
-                Ok(())
-            },
+            _ => Err(Fail::new("three hints")),
         }
     }
 

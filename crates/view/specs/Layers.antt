@@ -11,28 +11,25 @@ use Rattle.lines.specs.Transducers.{pieces_by}
 use Rattle.lines.specs.Tabs.{tab_stops}
 use Rattle.lines.specs.Wraps.{row_length, soft_wrap}
 
--- the two kinds of marks
-pub data MarkKind : Type 0 where
-  hint : MarkKind
-  fold : MarkKind
-
 -- what a layer keeps: hints or folds, as marks in the order of their places, or the width of tab stops or of soft wrap
 pub data Records : Type 0 where
-  marks : MarkKind → List Mark → Records
+  hints : List Mark → Records
+  folds : List Mark → Records
   tabs : ℕ → Records
   wrap : ℕ → Records
 
-abbrev pub hints : List Mark → Records
-hints ms = marks hint ms
-
-abbrev pub folds : List Mark → Records
-folds ms = marks fold ms
+-- a width is no mark
+abbrev pub marks_in : Records → List Mark
+marks_in (hints ms) = ms
+marks_in (folds ms) = ms
+marks_in (tabs _) = []
+marks_in (wrap _) = []
 
 -- the pieces of the text below, the text that they show, and the layer's own place map with its two searches
 abbrev pub pieces : Records → List ℕ → List Piece
-pieces (marks _ ms) xs = laid 0 ms xs
 pieces (tabs w) xs = pieces_by (tab_stops w) xs
 pieces (wrap w) xs = pieces_by (soft_wrap (row_length w)) xs
+pieces r xs = laid 0 (marks_in r) xs
 
 abbrev pub shown : Records → List ℕ → List ℕ
 shown r xs = shown_text (pieces r xs)
@@ -64,22 +61,23 @@ widest_wrap = 1024
 
 -- the ceiling of the layer's text over one of c
 abbrev pub growth : Records → ℕ → ℕ
-growth (marks hint _) c = c + 1024
-growth (marks fold _) c = c
+growth (hints _) c = c + 1024
+growth (folds _) c = c
 growth (tabs _) c = 16 * c
 growth (wrap _) c = 2 * c
 
 -- records that a layer can keep over a text of n codes: marks in order, within it, few, and each of its kind; a width
 -- that the kind takes
 abbrev pub Fit : Records → ℕ → Type 0
-Fit (marks hint ms) n = Placed 0 ms n × Light ms × (length ms ≤ most_records) × AllByRecursion (λ m. length m.shows ≤ longest_hint) ms
-Fit (marks fold ms) n = Placed 0 ms n × Solid ms × (length ms ≤ most_records) × AllByRecursion (λ m. m.shows ≡ placeholder ∷ []) ms
+Fit (hints ms) n = Placed 0 ms n × Light ms × (length ms ≤ most_records) × AllByRecursion (λ m. length m.shows ≤ longest_hint) ms
+Fit (folds ms) n = Placed 0 ms n × Solid ms × (length ms ≤ most_records) × AllByRecursion (λ m. m.shows ≡ placeholder ∷ []) ms
 Fit (tabs w) n = (1 ≤ w) × (w ≤ widest_tab)
 Fit (wrap w) n = (narrowest_wrap ≤ w) × (w ≤ widest_wrap)
 
 -- the records after a change of the text below
 abbrev pub follow : Records → Change → Records
-follow (marks k ms) c = marks k (followed c.start c.old c.new ms)
+follow (hints ms) c = hints (followed c.start c.old c.new ms)
+follow (folds ms) c = folds (followed c.start c.old c.new ms)
 follow (tabs w) c = tabs w
 follow (wrap w) c = wrap w
 
@@ -95,13 +93,13 @@ lines_raised r xs ys c p =
 
 -- the change of the layer's own text when the text below goes from xs to ys by c
 abbrev pub raised : Records → List ℕ → List ℕ → Change → Change
-raised (marks hint ms) xs ys c =
+raised (hints ms) xs ys c =
     record {
       start = last (hints ms) xs c.start;
       old = cond (c.old == 0) 0 (first (hints ms) xs (c.start + c.old) - last (hints ms) xs c.start);
       new = c.new;
     }
-raised (marks fold ms) xs ys c =
+raised (folds ms) xs ys c =
     record {
       start = first (folds ms) xs (lowest c.start c.old ms);
       old = first (folds ms) xs (highest c.start c.old ms) - first (folds ms) xs (lowest c.start c.old ms);

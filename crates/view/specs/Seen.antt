@@ -4,8 +4,8 @@ pub use Rattle.view.specs.declared.view.View.{Ghosts as Eyes}
 use Rattle.view.specs.Stacks.{text_of, first_place}
 
 module _ {V S : Type 0} (e : Eyes V S) (v : V) where
-  abbrev pub textAt : List ℕ
-  textAt = text_of e.most (e.stack v) (e.doc v)
+  abbrev pub text_at : List ℕ
+  text_at = text_of e.most (e.stack v) (e.doc v)
 
   abbrev pub first_at : ℕ → ℕ
   first_at p = first_place e.most (e.stack v) (e.doc v) p

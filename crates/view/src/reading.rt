@@ -1,7 +1,7 @@
 // The codes and lines of the text of a view, for what stands on it.
 ghost use Rattle.std.specs.Prelude.{◌≡◌, ◌≤◌, length, slice_index};
 ghost use Rattle.lines.specs.Lines.{line_start, line_end};
-ghost use Rattle.view.specs.Seen.{textAt};
+ghost use Rattle.view.specs.Seen.{text_at};
 
 use crate::view::View;
 use codes::code::is_row_end;
@@ -9,7 +9,7 @@ use codes::code::is_row_end;
 // The code behind the place `i`, 0 past the end. Costs one question.
 pub fn code_at<V: View>(below: &V, i: u32) -> u32
     requires { V.View.sound below.now }
-    ensures { result ≡ slice_index (textAt V.View below.now) i }
+    ensures { result ≡ slice_index (text_at V.View below.now) i }
 {
     match below.code(i) {
         Ok(code) => code,
@@ -20,8 +20,8 @@ pub fn code_at<V: View>(below: &V, i: u32) -> u32
 // Where the line that holds `place` begins. Costs a question for each code of the line in front of it.
 pub fn line_start<V: View>(below: &V, place: u32) -> u32
     requires sound { V.View.sound below.now }
-    requires within { place ≤ length (textAt V.View below.now) }
-    ensures { result ≡ line_start (textAt V.View below.now) place }
+    requires within { place ≤ length (text_at V.View below.now) }
+    ensures { result ≡ line_start (text_at V.View below.now) place }
 {
     for i in (0..place).rev() {
         if is_row_end(code_at(below, i)) {
@@ -34,8 +34,8 @@ pub fn line_start<V: View>(below: &V, place: u32) -> u32
 // Where the line that holds `place` ends. Costs a question for each code of the line behind it.
 pub fn line_end<V: View>(below: &V, place: u32) -> u32
     requires sound { V.View.sound below.now }
-    requires within { place ≤ length (textAt V.View below.now) }
-    ensures { result ≡ line_end (textAt V.View below.now) place }
+    requires within { place ≤ length (text_at V.View below.now) }
+    ensures { result ≡ line_end (text_at V.View below.now) place }
 {
     let len = below.len();
     for i in place..len {

@@ -1,6 +1,6 @@
 // Handing out a row of a view's text.
 ghost use Rattle.std.specs.Prelude.{◌≡◌};
-ghost use Rattle.view.specs.Seen.{textAt};
+ghost use Rattle.view.specs.Seen.{text_at};
 ghost use Rattle.view.specs.Rows.{HandsRow};
 
 use crate::fault::{Cause, ViewFault};
@@ -19,7 +19,7 @@ pub enum RowFault {
 // refused with 1, spot `u`. Costs one question for each code handed out.
 pub fn row_from<V: View>(heap: Global, view: &V, u: u32) -> Result<Vec<u32>, RowFault>
     requires { V.View.sound view.now }
-    ensures { HandsRow (textAt V.View view.now) u result }
+    ensures { HandsRow (text_at V.View view.now) u result }
 {
     let len = view.len();
     if u > len {

@@ -1,5 +1,5 @@
 use Rattle.std.proofs.Common.{arith}
-use Rattle.view.specs.Seen.{textAt}
+use Rattle.view.specs.Seen.{text_at}
 use Rattle.damage.proofs.Counting.{rows_counted, ends_all, ends_few}
 use Rattle.damage.proofs.rows.count_rows.Goals as goal
 
@@ -12,6 +12,6 @@ overflow_add-result g c =
 
 pub returns : goal.returns
 returns g c =
-    let t = textAt g.V.View c.args.view.now in
+    let t = text_at g.V.View c.args.view.now in
     let all = ends_all t c.len.result (omega (arith, c.len.ensures)) in
     omega (arith, all, c.ends_before.ensures, rows_counted t)

@@ -1,6 +1,6 @@
 use Rattle.std.proofs.Common.{◌≡◌, ◌<◌, min, true, false, length, get_or, sym, ap, ◌∙◌, arith}
 use Rattle.codes.specs.Codes.{is_row_end}
-use Rattle.view.specs.Seen.{textAt}
+use Rattle.view.specs.Seen.{text_at}
 use Rattle.damage.proofs.Counting.{ends_here, ends_same, ends_counted, ends_few}
 use Rattle.damage.proofs.rows.ends_between.Goals as goal
 use Rattle.damage.proofs.rows.ends_between.Goals.{then-is_row_end, else-is_row_end}
@@ -17,7 +17,7 @@ loop-i-init g c = (omega arith, omega arith)
 
 pub loop-i-preserved : goal.loop-i-preserved
 loop-i-preserved g c =
-    let t = textAt g.V.View c.args.view.now in
+    let t = text_at g.V.View c.args.view.now in
     let i = c.loop-i.i in
     let inside : i < length t = omega (arith, c.len.ensures, c.min-i-end.ensures) in
     let count = c.loop-i.invariant.1 in
@@ -32,6 +32,6 @@ loop-i-preserved g c =
 
 pub returns : goal.returns
 returns g c =
-    let t = textAt g.V.View c.args.view.now in
+    let t = text_at g.V.View c.args.view.now in
     let stop : c.min-i-end.result ≡ min c.args.to (length t) = omega (arith, c.min-i-end.ensures, c.len.ensures) in
     ends_counted t c.args.from c.args.to c.min-i-end.result c.loop-i.i c.loop-i.ends stop c.loop-i-test.false c.loop-i.auto.i c.loop-i.invariant.0 c.loop-i.invariant.1

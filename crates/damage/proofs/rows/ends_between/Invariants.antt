@@ -1,5 +1,5 @@
 use Rattle.std.proofs.Common.{◌≡◌, ◌+◌, ◌≤◌, max}
-use Rattle.view.specs.Seen.{textAt}
+use Rattle.view.specs.Seen.{text_at}
 use Rattle.damage.specs.Damages.{ends_before}
 use Rattle.damage.proofs.rows.ends_between.Given as goal
 
@@ -7,4 +7,4 @@ use Rattle.damage.proofs.rows.ends_between.Given as goal
 abbrev pub invariant-loop-i : goal.invariant-loop-i
 invariant-loop-i g l =
     (l.i ≤ max l.from l.i-end)
-    × (l.ends + ends_before (textAt g.V.View l.view) l.from ≡ ends_before (textAt g.V.View l.view) l.i)
+    × (l.ends + ends_before (text_at g.V.View l.view) l.from ≡ ends_before (text_at g.V.View l.view) l.i)

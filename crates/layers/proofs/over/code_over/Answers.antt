@@ -1,7 +1,7 @@
 use Rattle.std.proofs.Common.{◌<◌, length, get_or, sym, ap, ◌∙◌, subst, arith}
 use Rattle.std.proofs.lemmas.List.{get_or_past}
 use Rattle.places.specs.Marks.{Mark}
-use Rattle.view.specs.Seen.{textAt}
+use Rattle.view.specs.Seen.{text_at}
 use Rattle.tables.specs.Tables.{records_of}
 use Rattle.layers.proofs.Indexing.{held_index, held_mark}
 use Rattle.layers.proofs.over.code_over.Goals as goal
@@ -9,20 +9,20 @@ use Rattle.layers.proofs.over.code_over.Goals as goal
 pub bounds-records-index : goal.bounds-records-index
 bounds-records-index g c =
     held_index g.R.Record.mark c.records.result.now (records_of c.args.table.now) c.records.ensures.value c.in-Shown.index
-    (c.in-Shown.ensures (textAt g.V.View c.args.below.now) c.requires.within c.requires.counted).0
+    (c.in-Shown.ensures (text_at g.V.View c.args.below.now) c.requires.within c.requires.counted).0
 
 pub offset_bounds-records-index : goal.offset_bounds-records-index
 offset_bounds-records-index g c = let h : c.in-Shown.index < length c.records.result.now = bounds-records-index g c in omega arith
 
 pub code-requires : goal.code-requires
 code-requires g c =
-    let held = c.in-Shown.ensures (textAt g.V.View c.args.below.now) c.requires.within c.requires.counted in
+    let held = c.in-Shown.ensures (text_at g.V.View c.args.below.now) c.requires.within c.requires.counted in
     let here = held_mark g.R.Record.mark c.records.result.now (records_of c.args.table.now) c.records.ensures.value c.in-Shown.index held.0 c.index-records-index.result c.index-records-index.is in
     subst (λ (m : Mark). c.in-Shown.offset < length m.shows) here (held.1 (g.R.Record.mark c.index-records-index.result)).1
 
 pub returns-in-Shown : goal.returns-in-Shown
 returns-in-Shown g c =
-    let held = c.in-Shown.ensures (textAt g.V.View c.args.below.now) c.requires.within c.requires.counted in
+    let held = c.in-Shown.ensures (text_at g.V.View c.args.below.now) c.requires.within c.requires.counted in
     let here = held_mark g.R.Record.mark c.records.result.now (records_of c.args.table.now) c.records.ensures.value c.in-Shown.index held.0 c.index-records-index.result c.index-records-index.is in
     c.code.ensures
     ∙ ap (λ (m : Mark). get_or m.shows c.in-Shown.offset 0) (sym here)
@@ -30,5 +30,5 @@ returns-in-Shown g c =
 
 pub returns-in-Err : goal.returns-in-Err
 returns-in-Err g c =
-    let held = c.in-Below.ensures (textAt g.V.View c.args.below.now) c.requires.within c.requires.counted in
-    sym (held.1 ∙ get_or_past (textAt g.V.View c.args.below.now) c.in-Below.place 0 c.in-Err.ensures.0)
+    let held = c.in-Below.ensures (text_at g.V.View c.args.below.now) c.requires.within c.requires.counted in
+    sym (held.1 ∙ get_or_past (text_at g.V.View c.args.below.now) c.in-Below.place 0 c.in-Err.ensures.0)

@@ -2,12 +2,12 @@ use Rattle.std.proofs.Common.{◌+◌, ap, arith}
 use Rattle.lines.specs.Transducers.{reach_by}
 use Rattle.lines.proofs.Lining.{line_end_fits}
 use Rattle.lines.proofs.Scanning.{reach_all}
-use Rattle.view.specs.Seen.{textAt}
+use Rattle.view.specs.Seen.{text_at}
 use Rattle.linewise.proofs.walking.raise.Goals as goal
 
 pub reach-end-requires : goal.reach-end-requires
 reach-end-requires g c =
-    let t = textAt g.V.View c.args.below.now in
+    let t = text_at g.V.View c.args.below.now in
     record {
       walkable = c.requires.walkable;
       within = omega (arith, c.line_end.ensures, line_end_fits t (c.args.change.start + c.args.change.new) c.requires.within);
@@ -16,7 +16,7 @@ reach-end-requires g c =
 pub returns : goal.returns
 returns g c =
     let m = g.S.Scan.transducer c.args.scan.now in
-    let t = textAt g.V.View c.args.below.now in
+    let t = text_at g.V.View c.args.below.now in
     let end = c.reach-end.ensures in
     let line = ap (reach_by m t) c.line_end.ensures in
     let all = c.reach.ensures in

@@ -1,11 +1,11 @@
 use Rattle.std.proofs.Common.{◌+◌, ◌<◌, ◌≤◌, length, sym, ◌∙◌, arith}
-use Rattle.view.specs.Seen.{textAt}
+use Rattle.view.specs.Seen.{text_at}
 use Rattle.linewise.proofs.Walks.{walked_none, walked_more, reached_le, seek_under, seek_code, end_under, end_code}
 use Rattle.linewise.proofs.walking.seek.Goals as goal
 
 pub loop-i-init : goal.loop-i-init
 loop-i-init g c = (
-  walked_none (g.S.Scan.transducer c.args.scan.now) (textAt g.V.View c.args.below.now) _ (g.met.S.Scan.bounded c.args.scan.now) c.start-state.ensures,
+  walked_none (g.S.Scan.transducer c.args.scan.now) (text_at g.V.View c.args.below.now) _ (g.met.S.Scan.bounded c.args.scan.now) c.start-state.ensures,
   omega arith,
 )
 
@@ -18,7 +18,7 @@ overflow_sub-u-then-u-reach g c = c.loop-i.invariant.1
 pub returns-then-u-reach : goal.returns-then-u-reach
 returns-then-u-reach g c =
     let m = g.S.Scan.transducer c.args.scan.now in
-    let t = textAt g.V.View c.args.below.now in
+    let t = text_at g.V.View c.args.below.now in
     let low = c.loop-i.invariant.1 in
     let inside : c.loop-i.i < length t = omega arith in
     let near : c.args.u < c.loop-i.reach + c.size-size.result = omega arith in
@@ -30,7 +30,7 @@ returns-then-u-reach g c =
 pub overflow_add-reach : goal.overflow_add-reach
 overflow_add-reach g c =
     let m = g.S.Scan.transducer c.args.scan.now in
-    let t = textAt g.V.View c.args.below.now in
+    let t = text_at g.V.View c.args.below.now in
     let fits = reached_le m t c.loop-i.i c.loop-i.reach c.loop-i.state c.code_at-code.result c.size-size.result c.loop-i.invariant.0 (omega arith) c.code_at-code.ensures c.size-size.ensures in
     let high = c.requires.walkable.high in
     omega arith
@@ -38,7 +38,7 @@ overflow_add-reach g c =
 pub next-state-requires : goal.next-state-requires
 next-state-requires g c =
     let m = g.S.Scan.transducer c.args.scan.now in
-    let t = textAt g.V.View c.args.below.now in
+    let t = text_at g.V.View c.args.below.now in
     let fits = reached_le m t c.loop-i.i c.loop-i.reach c.loop-i.state c.code_at-code.result c.size-size.result c.loop-i.invariant.0 (omega arith) c.code_at-code.ensures c.size-size.ensures in
     record {
       sound = c.requires.walkable.sound;
@@ -50,7 +50,7 @@ next-state-requires g c =
 pub loop-i-preserved : goal.loop-i-preserved
 loop-i-preserved g c =
     let m = g.S.Scan.transducer c.args.scan.now in
-    let t = textAt g.V.View c.args.below.now in
+    let t = text_at g.V.View c.args.below.now in
     let low = c.loop-i.invariant.1 in (
       walked_more m t c.loop-i.i c.loop-i.reach c.loop-i.state c.code_at-code.result c.size-size.result c.loop-i.invariant.0 (omega arith) c.code_at-code.ensures c.size-size.ensures
           _ (g.met.S.Scan.bounded c.args.scan.now) c.next-state.ensures,
@@ -60,7 +60,7 @@ loop-i-preserved g c =
 pub returns : goal.returns
 returns g c =
     let m = g.S.Scan.transducer c.args.scan.now in
-    let t = textAt g.V.View c.args.below.now in
+    let t = text_at g.V.View c.args.below.now in
     let steady = g.met.S.Scan.steady c.args.scan.now in
     let all : length t ≤ c.loop-i.i = omega arith in
     record {

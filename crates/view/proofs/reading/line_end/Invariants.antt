@@ -1,8 +1,8 @@
 use Rattle.std.proofs.Common.{◌≡◌}
 use Rattle.lines.specs.Lines.{line_end}
-use Rattle.view.specs.Seen.{textAt}
+use Rattle.view.specs.Seen.{text_at}
 use Rattle.view.proofs.reading.line_end.Given as goal
 
 -- the line that holds i is the one asked for
 abbrev pub invariant-loop-i : goal.invariant-loop-i
-invariant-loop-i g l = line_end (textAt g.V.View l.below) l.i ≡ line_end (textAt g.V.View l.below) l.place
+invariant-loop-i g l = line_end (text_at g.V.View l.below) l.i ≡ line_end (text_at g.V.View l.below) l.place

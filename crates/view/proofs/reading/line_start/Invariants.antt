@@ -1,9 +1,9 @@
 use Rattle.std.proofs.Common.{◌≡◌, ◌≤◌, length}
 use Rattle.lines.specs.Lines.{line_start}
-use Rattle.view.specs.Seen.{textAt}
+use Rattle.view.specs.Seen.{text_at}
 use Rattle.view.proofs.reading.line_start.Given as goal
 
 -- the line that holds i is the one asked for
 abbrev pub invariant-loop-i : goal.invariant-loop-i
 invariant-loop-i g l =
-    (l.i ≤ length (textAt g.V.View l.below)) × (line_start (textAt g.V.View l.below) l.i ≡ line_start (textAt g.V.View l.below) l.place)
+    (l.i ≤ length (text_at g.V.View l.below)) × (line_start (text_at g.V.View l.below) l.i ≡ line_start (text_at g.V.View l.below) l.place)

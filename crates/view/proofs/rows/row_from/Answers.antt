@@ -5,12 +5,12 @@ use Rattle.std.proofs.lemmas.Bool.{cond-true}
 use Rattle.codes.specs.Codes.{is_row_end}
 use Rattle.codes.proofs.Stretches.{stretch_more}
 use Rattle.view.specs.Rows.{is_in_row}
-use Rattle.view.specs.Seen.{textAt}
+use Rattle.view.specs.Seen.{text_at}
 use Rattle.view.proofs.rows.row_from.Goals as goal
 
 pub returns-then-is_row_end : goal.returns-then-is_row_end
 returns-then-is_row_end g c =
-    let t = textAt g.V.View c.args.view.now in
+    let t = text_at g.V.View c.args.view.now in
     let i = c.loop-i.i in
     let at = c.in-Ok.ensures in
     let ends : is_in_row (get_or t i 0) ≡ false = ap not (ap is_row_end (sym at.1) ∙ sym c.is_row_end.ensures ∙ c.if-is_row_end.true) in
@@ -20,7 +20,7 @@ returns-then-is_row_end g c =
 
 pub loop-i-preserved : goal.loop-i-preserved
 loop-i-preserved g c =
-    let t = textAt g.V.View c.args.view.now in
+    let t = text_at g.V.View c.args.view.now in
     let i = c.loop-i.i in
     let at = c.in-Ok.ensures in
     let goes : is_in_row (get_or t i 0) ≡ true = ap not (ap is_row_end (sym at.1) ∙ sym c.is_row_end.ensures ∙ c.if-is_row_end.false) in
@@ -31,7 +31,7 @@ loop-i-preserved g c =
 
 pub returns : goal.returns
 returns g c =
-    let t = textAt g.V.View c.args.view.now in
+    let t = text_at g.V.View c.args.view.now in
     let e = prefix_len-drop_all is_in_row t c.loop-i.i (omega arith) in
     let n : c.loop-i.i - c.args.u ≡ prefix_len is_in_row (drop c.args.u t) = omega (arith, c.loop-i.invariant.1) in
     (omega arith, c.loop-i.invariant.0 ∙ ap (λ (k : ℕ). take k (drop c.args.u t)) n)

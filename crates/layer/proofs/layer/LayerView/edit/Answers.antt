@@ -8,7 +8,7 @@ use Rattle.places.specs.Changes.{Kept}
 use Rattle.view.specs.declared.fault.ViewFault.{ViewFault}
 use Rattle.view.specs.Stacks.{ceiling_of, after_edit}
 use Rattle.view.specs.Views.{Edits}
-use Rattle.view.specs.Seen.{textAt}
+use Rattle.view.specs.Seen.{text_at}
 use Rattle.layer.specs.Stacking.{edit_ceiling}
 use Rattle.layer.proofs.Rising.{risen_ok, risen_err, deeper_refusal, mapped_none}
 use Rattle.layer.specs.Carrying.{Lawful, behind_when, over_when, carried_whole}
@@ -45,7 +45,7 @@ carry-requires g c =
     let law' : Lawful e v' = record { sound = s'; fits = g.met.V.View.fits v' s'; small = g.met.V.View.small v' s' } in
     let P : Result Change ViewFault → Type 0 = λ x. Edits e.most e.doc e.spare_of e.stack v v' e.spare_after c.args.a c.args.r c.args.w.now x in
     let does = subst P (risen_ok c.edit.result c.rise.result own c.rise.ensures c.in_ok-change.was) c.edit.ensures.does in
-    let kept : Kept (textAt e v) (textAt e v') own = does.3.2 in
+    let kept : Kept (text_at e v) (text_at e v') own = does.3.2 in
     let low : ceiling_of e.most (e.stack v') ≡ ceiling_of e.most (e.stack v) = ap (ceiling_of e.most) does.3.0 ∙ edit_ceiling e.most (e.stack v) (e.doc v) (e.doc v') (record { start = c.args.a; old = c.args.r; new = length c.args.w.now }) in
     record {
       sound = s';
@@ -67,7 +67,7 @@ returns g c =
     let law' : Lawful e v' = record { sound = s'; fits = g.met.V.View.fits v' s'; small = g.met.V.View.small v' s' } in
     let P : Result Change ViewFault → Type 0 = λ x. Edits e.most e.doc e.spare_of e.stack v v' e.spare_after c.args.a c.args.r c.args.w.now x in
     let does = subst P (risen_ok c.edit.result c.rise.result own c.rise.ensures c.in_ok-change.was) c.edit.ensures.does in
-    let kept : Kept (textAt e v) (textAt e v') own = does.3.2 in
+    let kept : Kept (text_at e v) (text_at e v') own = does.3.2 in
     let low : ceiling_of e.most (e.stack v') ≡ ceiling_of e.most (e.stack v) = ap (ceiling_of e.most) does.3.0 ∙ edit_ceiling e.most (e.stack v) (e.doc v) (e.doc v') by in
     let l' = c.carry.new.self in
     let q = g.K.Kind.records l'.kind in

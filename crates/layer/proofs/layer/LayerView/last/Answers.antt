@@ -1,6 +1,6 @@
 use Rattle.std.proofs.Common.{sym, ap, ◌∙◌, arith}
 use Rattle.view.specs.Layers.{last}
-use Rattle.view.specs.Seen.{textAt}
+use Rattle.view.specs.Seen.{text_at}
 use Rattle.layer.specs.Stacking.{stack_finds, last_awake}
 use Rattle.layer.specs.Carrying.{Lawful, sound_over, sound_fits}
 use Rattle.layer.proofs.layer.LayerView.last.Goals as goal
@@ -25,6 +25,6 @@ returns g c =
     let law : Lawful e v = record { sound = s.below; fits = g.met.V.View.fits v s.below; small = g.met.V.View.small v s.below } in
     let answer = c.in_ok-l.ensures in (
       answer.0,
-      c.last-2.ensures ∙ ap (last r (textAt e v)) answer.1
+      c.last-2.ensures ∙ ap (last r (text_at e v)) answer.1
           ∙ last_awake e.most r (e.stack v) (e.doc v) (sound_fits e v law r _ _ _ s) c.args.p answer.0 (sym s.knows ∙ c.if-not-self.false),
     )

@@ -7,7 +7,7 @@ use Rattle.view.specs.Refusals.{view_refusal, deeper, meant_for}
 use Rattle.view.specs.Layers.{Records}
 use Rattle.view.specs.Stacks.{ceiling_of, after_order, carried, order_refusal_of}
 use Rattle.view.specs.Views.{Obeys}
-use Rattle.view.specs.Seen.{textAt}
+use Rattle.view.specs.Seen.{text_at}
 use Rattle.layer.specs.Sound.{Sound}
 use Rattle.layer.specs.Stacking.{order_ceiling}
 use Rattle.layer.proofs.Rising.{risen_ok, risen_err, deeper_order, deeper_none, refused_verb, refused_asleep, refused_own, taken_own}
@@ -28,7 +28,7 @@ carry-requires g c =
     let law' : Lawful e v' = record { sound = s'; fits = g.met.V.View.fits v' s'; small = g.met.V.View.small v' s' } in
     let P : Result Change ViewFault → Type 0 = λ x. Obeys e.most e.doc e.spare_of e.stack v v' k c.args.order c.args.w.now x in
     let does = subst P (risen_ok c.order.result (Ok own) own c.in-Ok.ensures refl) c.order.ensures.does in
-    let kept : Kept (textAt e v) (textAt e v') own = does.3.2 in
+    let kept : Kept (text_at e v) (text_at e v') own = does.3.2 in
     let low : ceiling_of e.most (e.stack v') ≡ ceiling_of e.most (e.stack v) = ap (ceiling_of e.most) does.3.0 ∙ order_ceiling e.most (e.stack v) (e.doc v) k c.args.order c.args.w.now in
     record {
       sound = s';
@@ -53,7 +53,7 @@ returns-in-Ok g c =
     let law' : Lawful e v' = record { sound = s'; fits = g.met.V.View.fits v' s'; small = g.met.V.View.small v' s' } in
     let P : Result Change ViewFault → Type 0 = λ x. Obeys e.most e.doc e.spare_of e.stack v v' k o w x in
     let does = subst P (risen_ok c.order.result (Ok own) own c.in-Ok.ensures refl) c.order.ensures.does in
-    let kept : Kept (textAt e v) (textAt e v') own = does.3.2 in
+    let kept : Kept (text_at e v) (text_at e v') own = does.3.2 in
     let low : ceiling_of e.most (e.stack v') ≡ ceiling_of e.most (e.stack v) = ap (ceiling_of e.most) does.3.0 ∙ order_ceiling e.most (e.stack v) (e.doc v) k o w in
     let l' = c.carry.new.self in
     let b = l'.below in

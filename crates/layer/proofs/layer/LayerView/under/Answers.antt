@@ -2,7 +2,7 @@ use Rattle.std.proofs.Common.{◌∷◌, length, sym, ap, ◌∙◌, arith}
 use Rattle.places.proofs.Finding.{under_in}
 use Rattle.view.specs.Layers.{under}
 use Rattle.view.specs.Stacks.{text_of, under_of}
-use Rattle.view.specs.Seen.{textAt}
+use Rattle.view.specs.Seen.{text_at}
 use Rattle.view.proofs.Answering.{place_through}
 use Rattle.layer.specs.Fitting.{fit_finds}
 use Rattle.layer.specs.Stacking.{text_awake, under_awake}
@@ -28,6 +28,6 @@ returns g c =
     let law : Lawful e v = record { sound = s.below; fits = g.met.V.View.fits v s.below; small = g.met.V.View.small v s.below } in
     let t = ap length (text_awake e.most r (e.stack v) (e.doc v) up) in
     let over = sound_over e v law r _ _ _ s c.if-not-self.false in
-    let inside = under_in (fit_finds r (textAt e v) over.fit) c.args.u (omega (arith, s.sized, c.if-u-self.false)) in
-    place_through (under r (textAt e v)) (under_of e.most (e.stack v) (e.doc v)) (under_of e.most (r ∷ e.stack v) (e.doc v)) (length (text_of e.most (r ∷ e.stack v) (e.doc v))) (length (textAt e v)) _ c.args.u _ (omega (arith, s.sized, c.if-u-self.false)) inside c.under-l.ensures
+    let inside = under_in (fit_finds r (text_at e v) over.fit) c.args.u (omega (arith, s.sized, c.if-u-self.false)) in
+    place_through (under r (text_at e v)) (under_of e.most (e.stack v) (e.doc v)) (under_of e.most (r ∷ e.stack v) (e.doc v)) (length (text_of e.most (r ∷ e.stack v) (e.doc v))) (length (text_at e v)) _ c.args.u _ (omega (arith, s.sized, c.if-u-self.false)) inside c.under-l.ensures
     (under_awake e.most r (e.stack v) (e.doc v) up c.args.u) c.under-2.ensures

@@ -1,7 +1,7 @@
 use Rattle.std.proofs.Common.{refl, arith}
 use Rattle.lines.specs.Tabs.{tab_stops}
 use Rattle.lines.specs.Transducers.{reach_by}
-use Rattle.view.specs.Seen.{textAt}
+use Rattle.view.specs.Seen.{text_at}
 use Rattle.linewise.specs.Widths.{tabs_behind}
 use Rattle.linewise.proofs.Raising.{ByNew, tabs_raised}
 use Rattle.linewise.proofs.tabs.TabsKind.follow.Goals as goal
@@ -18,7 +18,7 @@ raise-requires g c =
 pub returns : goal.returns
 returns g c =
     let w = c.args.self.now.width in
-    let t = textAt g.V.View c.args.below.now in
+    let t = text_at g.V.View c.args.below.now in
     let by : ByNew (tab_stops w) t c.args.change c.args.len (reach_by (tab_stops w) t c.args.change.start) c.raise.result = record { start = c.raise.ensures.start; old = c.raise.ensures.old; new = c.raise.ensures.new } in
     record {
       records = refl;

@@ -1,7 +1,7 @@
 use Rattle.std.proofs.Common.{refl, ◌∙◌, arith}
 use Rattle.lines.specs.Wraps.{row_length, soft_wrap}
 use Rattle.lines.proofs.Scanning.{reach_all}
-use Rattle.view.specs.Seen.{textAt}
+use Rattle.view.specs.Seen.{text_at}
 use Rattle.linewise.proofs.Raising.{same_numbers}
 use Rattle.linewise.specs.Widths.{width_taken, wrap_over}
 use Rattle.linewise.proofs.wrap.WrapKind.order.Goals as goal
@@ -12,7 +12,7 @@ reach-new-requires g c =
 
 pub returns-in-2-to-1024 : goal.returns-in-2-to-1024
 returns-in-2-to-1024 g c =
-    let t = textAt g.V.View c.args.below.now in (
+    let t = text_at g.V.View c.args.below.now in (
       width_taken 2 1024 c.args.order (omega arith) (omega arith),
       refl,
       same_numbers 0 _ _ 0 _ _ refl
