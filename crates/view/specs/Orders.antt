@@ -46,7 +46,8 @@ adds (wrap _) v = true
 abbrev pub is_hint_code : ℕ → Bool
 is_hint_code c = is_document_code c && not (c == newline)
 
--- the record that removing at the lower place l means: the hint that stands there, the fold around the code behind it
+-- the record that removing at the lower place l means: the hint that stands there, the fold around the code behind it; none
+-- of a width. What `new_mark`, `with_marks` and `add_start` say of a width is never asked
 abbrev pub meets : Records → ℕ → Mark → Bool
 meets (hints _) l m = m.at == l
 meets (folds _) l m = nat_le m.at l && nat_lt l (past m)
