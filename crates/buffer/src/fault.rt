@@ -6,17 +6,22 @@ ghost use Rattle.buffer.specs.Refusals.{refusal_of, edit_refusal};
 use codes::code::document_front;
 
 // Why a buffer refuses a call.
-#[derive(Clone, Copy, PartialEq, Eq, Debug)]
+#[derive(Clone, Copy, PartialEq, Eq, Debug, thiserror::Error)]
 pub enum BufferFault {
     // a place past the end of the document, or fewer codes behind it than an edit takes out
+    #[error("{place}")]
     PastEnd { place: u64 },
     // an edit that takes nothing out and puts nothing in
+    #[error("{place}")]
     EmptyEdit { place: u64 },
     // a code that no document holds, by its index among those that were handed
+    #[error("{index}")]
     BadCode { index: u64 },
     // more codes to put in than the buffer has room for
+    #[error("{spare}")]
     NoSpare { spare: u64 },
     // more cells handed than a buffer of this kind works in
+    #[error("{cells}")]
     TooManyCells { cells: u64 },
 }
 

@@ -1,5 +1,5 @@
 -- What each fault of a view stands for. Assumes nothing.
-use Rattle.std.specs.Prelude.{◌≡◌, ℕ, ◌+◌, min, Bool, cond, List, [], ◌∷◌, Some, None, Ok, Err, Option, Result}
+use Rattle.std.specs.Prelude.{ℕ, ◌+◌, min, Bool, cond, List, [], ◌∷◌, Some, None, Option}
 use Rattle.buffer.specs.declared.fault.Refusal.{Refusal}
 use Rattle.buffer.specs.Refusals.{refusal_of, told}
 use Rattle.view.specs.declared.fault.Cause.{Cause}
@@ -45,10 +45,6 @@ with_steps k Asleep = Asleep
 
 abbrev pub meant_for : ℕ → ViewFault → ViewFault
 meant_for k f = record { cause = with_steps k f.cause; layer = f.layer }
-
-abbrev pub Rises : {T : Type 0} → Result T ViewFault → Result T ViewFault → Type 0
-Rises (Ok x) r = r ≡ Ok x
-Rises (Err f) r = r ≡ Err (deeper f)
 
 -- the first cause of a list that holds
 abbrev pub first_cause : List (Bool × Refusal) → Option Refusal

@@ -30,8 +30,6 @@ impl<B: Buffer> Bare<B> {
 impl<B: Buffer> View for Bare<B> {
     type Store = B;
 
-    ghost sound = { λ _. Unit {0} };
-
     ghost most = { B.Buffer.most };
 
     ghost doc = { λ v. B.Buffer.doc v.store };
@@ -46,7 +44,7 @@ impl<B: Buffer> View for Bare<B> {
 
     ghost fits = { Prim.search rules };
 
-    ghost means = { λ v s. let small = B.Buffer.fits v.store in bare_means B.Buffer.most (B.Buffer.doc v.store) (omega arith) B.Buffer.bounded };
+    ghost means = { λ v. let small = B.Buffer.fits v.store in bare_means B.Buffer.most (B.Buffer.doc v.store) (omega arith) B.Buffer.bounded };
 
     ghost small = { Prim.search rules };
 
@@ -67,10 +65,9 @@ impl<B: Buffer> View for Bare<B> {
     }
 
     fn code(&self, u: u32) -> Result<u32, ViewFault> {
-        match self.store.code(u) {
-            Ok(code) => Ok(code),
-            Err(_) => Err(Cause::PastEnd { place: u }.here()),
-        }
+        self.store
+            .code(u)
+            .map_err(|_| Cause::PastEnd { place: u }.here())
     }
 
     fn under(&self, u: u32) -> Result<u32, ViewFault> {

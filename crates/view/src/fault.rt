@@ -1,38 +1,50 @@
 // What a view refuses, and what a host is told of it.
-ghost use Rattle.std.specs.Prelude.{◌≡◌, ℕ, Result};
-ghost use Rattle.view.specs.Refusals.{view_refusal, meant_for, Rises};
+ghost use Rattle.std.specs.Prelude.{◌≡◌};
+ghost use Rattle.view.specs.Refusals.{view_refusal, meant_for, deeper};
 ghost use Rattle.view.specs.declared.fault.ViewFault.{ViewFault as Found};
 ghost use Rattle.view.specs.declared.fault.Cause.TheVariants.{Buffer as FromBuffer};
 
 use buffer::fault::{BufferFault, Refusal};
+use thiserror::Error;
 
 // Why a view refuses a call, at the layer where it arose.
-#[derive(Clone, Copy, PartialEq, Eq, Debug)]
+#[derive(Clone, Copy, PartialEq, Eq, Debug, Error)]
 pub enum Cause {
     // what the buffer refuses
+    #[error("{0}")]
     Buffer(BufferFault),
     // a place past the end
+    #[error("no place {place}")]
     PastEnd { place: u32 },
     // an order to a layer below the last one, so many steps down
+    #[error("no layer {steps} steps down")]
     NoLayer { steps: u32 },
     // a verb that the layer does not have
+    #[error("no verb {verb}")]
     OtherVerb { verb: char },
     // a length, a width or a pair of places that the layer does not take
+    #[error("{value} is out of range")]
     OutOfRange { value: u64 },
     // a code that may not be shown, by its index among those that were handed
+    #[error("the code at {index} may not be shown")]
     BadCode { index: u64 },
     // a fold on no code or over another fold
+    #[error("no fold at {place}: no codes, or folded already")]
     BadFold { place: u32 },
     // no hint or fold there
+    #[error("no hint or fold at {place}")]
     NoRecord { place: u32 },
     // as many records kept already as a layer keeps
+    #[error("{kept} hints or folds are kept already")]
     TableFull { kept: u32 },
     // a layer that rewrites nothing, since its text could grow too long
+    #[error("the layer is asleep")]
     Asleep,
 }
 
 // A cause, and how many layers below the view that was called it arose.
-#[derive(Clone, Copy, PartialEq, Eq, Debug)]
+#[derive(Clone, Copy, PartialEq, Eq, Debug, Error)]
+#[error("{cause}, {layer} layers below")]
 pub struct ViewFault {
     pub cause: Cause,
     pub layer: u8,
@@ -88,9 +100,21 @@ impl ViewFault {
             spot,
         }
     }
-}
 
-impl ViewFault {
+    // The same as a fault of the view above: one layer deeper, and past 254 no deeper. Constant time.
+    pub fn risen(self) -> ViewFault
+        ensures { result ≡ deeper self }
+    {
+        ViewFault {
+            cause: self.cause,
+            layer: if self.layer < 254 {
+                self.layer + 1
+            } else {
+                254
+            },
+        }
+    }
+
     // The same, where an order for a layer that is not there was meant for the one `k` steps below the view that was
     // called. Constant time.
     pub fn from_above(self, k: u32) -> ViewFault
@@ -103,22 +127,5 @@ impl ViewFault {
             },
             _ => self,
         }
-    }
-}
-
-// An answer of the view below as this one's: a fault lies one layer deeper, and past 254 no deeper. Constant time.
-pub fn rise<T>(answer: Result<T, ViewFault>) -> Result<T, ViewFault>
-    ensures { Rises answer result }
-{
-    match answer {
-        Ok(value) => Ok(value),
-        Err(fault) => Err(ViewFault {
-            cause: fault.cause,
-            layer: if fault.layer < 254 {
-                fault.layer + 1
-            } else {
-                254
-            },
-        }),
     }
 }

@@ -8,19 +8,14 @@ use codes::code::is_row_end;
 
 // The code behind the place `i`, 0 past the end. Costs one question.
 pub fn code_at<V: View>(below: &V, i: u32) -> u32
-    requires { V.View.sound below.now }
     ensures { result ≡ slice_index (text_at V.View below.now) i }
 {
-    match below.code(i) {
-        Ok(code) => code,
-        Err(_) => 0,
-    }
+    below.code(i).unwrap_or(0)
 }
 
 // Where the line that holds `place` begins. Costs a question for each code of the line in front of it.
 pub fn line_start<V: View>(below: &V, place: u32) -> u32
-    requires sound { V.View.sound below.now }
-    requires within { place ≤ length (text_at V.View below.now) }
+    requires { place ≤ length (text_at V.View below.now) }
     ensures { result ≡ line_start (text_at V.View below.now) place }
 {
     for i in (0..place).rev() {
@@ -33,8 +28,7 @@ pub fn line_start<V: View>(below: &V, place: u32) -> u32
 
 // Where the line that holds `place` ends. Costs a question for each code of the line behind it.
 pub fn line_end<V: View>(below: &V, place: u32) -> u32
-    requires sound { V.View.sound below.now }
-    requires within { place ≤ length (text_at V.View below.now) }
+    requires { place ≤ length (text_at V.View below.now) }
     ensures { result ≡ line_end (text_at V.View below.now) place }
 {
     let len = below.len();

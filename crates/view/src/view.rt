@@ -14,9 +14,6 @@ use places::change::Change;
 pub trait View: Sized {
     type Store: Buffer;
 
-    // a value that was opened, and changed by these calls alone
-    ghost sound: { Self → Type 0 };
-
     ghost most: { ℕ };
 
     ghost doc: { Self → List ℕ };
@@ -32,7 +29,6 @@ pub trait View: Sized {
 
     // A view of what `store` holds, its layers as at opening; the most and the rule of the spare are the buffer's.
     fn open(store: Self::Store) -> Self
-        ensures sound { sound result }
         ensures most { most ≡ Self.Store.Buffer.most }
         ensures rule { (n s r k : ℕ) → spare_after n s r k ≡ Self.Store.Buffer.spare_after n s r k }
         ensures doc { doc result ≡ Self.Store.Buffer.doc store }
@@ -41,59 +37,48 @@ pub trait View: Sized {
 
     // The length of the document.
     fn document_len(&self) -> u32
-        requires { sound self.now }
         ensures { result ≡ length (doc self.now) };
 
     // The length of the text.
     fn len(&self) -> u32
-        requires { sound self.now }
         ensures { result ≡ length (text_of most (stack self.now) (doc self.now)) };
 
     // What the length of the text never passes.
     fn ceiling(&self) -> u32
-        requires { sound self.now }
         ensures { result ≡ ceiling_of most (stack self.now) };
 
     // The code behind the place `u` of the text; a place at or past the end is refused with 1, spot `u`.
     fn code(&self, u: u32) -> Result<u32, ViewFault>
-        requires { sound self.now }
         ensures { CodeAt (text_of most (stack self.now) (doc self.now)) u result };
 
     // The document place under the place `u` of the text; one past the end is refused with 1, spot `u`.
     fn under(&self, u: u32) -> Result<u32, ViewFault>
-        requires { sound self.now }
         ensures { PlaceAt (under_of most (stack self.now) (doc self.now)) (length (text_of most (stack self.now) (doc self.now))) u result };
 
     // The least place of the text that lies at or behind the document place `p`; one past the end is refused with 1,
     // spot `p`.
     fn first(&self, p: u32) -> Result<u32, ViewFault>
-        requires { sound self.now }
         ensures { PlaceAt (first_place most (stack self.now) (doc self.now)) (length (doc self.now)) p result };
 
     // The greatest place of the text that lies at or before the document place `p`; one past the end is refused with 1,
     // spot `p`.
     fn last(&self, p: u32) -> Result<u32, ViewFault>
-        requires { sound self.now }
         ensures { PlaceAt (last_place most (stack self.now) (doc self.now)) (length (doc self.now)) p result };
 
     // Puts `w` in the place of the `r` codes of the document at `a`, and answers the change of the text; refused as the
     // buffer refuses it, so many layers below.
     fn edit(&mut self, a: u32, r: u32, w: &[u32]) -> Result<Change, ViewFault>
-        requires { sound self.old }
-        ensures sound { sound self.new }
-        ensures does { Edits most doc spare_of stack self.old self.new spare_after a r w.now result };
+        ensures { Edits most doc spare_of stack self.old self.new spare_after a r w.now result };
 
     // Has the layer `k` steps below the top carry out `order`, whose codes are `w`, and answers the change of the text.
     // Refused, in this order, with 6 where there is no such layer, 7 where it has no such verb, 12 where it is asleep, and
     // then for the layer's own causes.
     fn order(&mut self, k: u32, order: Order, w: &[u32]) -> Result<Change, ViewFault>
-        requires { sound self.old }
-        ensures sound { sound self.new }
-        ensures does { Obeys most doc spare_of stack self.old self.new k order w.now result };
+        ensures { Obeys most doc spare_of stack self.old self.new k order w.now result };
 
-    ghost fits: { (v : Self) → sound v → AllFit most (stack v) (doc v) };
+    ghost fits: { (v : Self) → AllFit most (stack v) (doc v) };
 
-    ghost means: { (v : Self) → sound v → Means most (stack v) (doc v) };
+    ghost means: { (v : Self) → Means most (stack v) (doc v) };
 
-    ghost small: { (v : Self) → sound v → (length (doc v) + spare_of v ≤ most) × (most ≤ 1073741824) };
+    ghost small: { (v : Self) → (length (doc v) + spare_of v ≤ most) × (most ≤ 1073741824) };
 }

@@ -1,7 +1,6 @@
 use Rattle.std.proofs.Common.{◌≡◌, ℕ, ◌-◌, true, false, not, get_or, take, drop, sym, ap, ◌∙◌, arith}
 use Rattle.std.specs.List.{prefix_len}
 use Rattle.std.proofs.lemmas.List.Sums.{prefix_len-drop_yes, prefix_len-drop_no, prefix_len-drop_all}
-use Rattle.std.proofs.lemmas.Bool.{cond-true}
 use Rattle.codes.specs.Codes.{is_row_end}
 use Rattle.codes.proofs.Stretches.{stretch_more}
 use Rattle.view.specs.Rows.{is_in_row}
@@ -12,7 +11,7 @@ pub returns-then-is_row_end : goal.returns-then-is_row_end
 returns-then-is_row_end g c =
     let t = text_at g.V.View c.args.view.now in
     let i = c.loop-i.i in
-    let at = c.in-Ok.ensures in
+    let at = c.in_ok-code.ensures in
     let ends : is_in_row (get_or t i 0) ≡ false = ap not (ap is_row_end (sym at.1) ∙ sym c.is_row_end.ensures ∙ c.if-is_row_end.true) in
     let e = prefix_len-drop_no is_in_row t i 0 at.0 ends in
     let n : i - c.args.u ≡ prefix_len is_in_row (drop c.args.u t) = omega (arith, c.loop-i.invariant.1) in
@@ -22,10 +21,10 @@ pub loop-i-preserved : goal.loop-i-preserved
 loop-i-preserved g c =
     let t = text_at g.V.View c.args.view.now in
     let i = c.loop-i.i in
-    let at = c.in-Ok.ensures in
+    let at = c.in_ok-code.ensures in
     let goes : is_in_row (get_or t i 0) ≡ true = ap not (ap is_row_end (sym at.1) ∙ sym c.is_row_end.ensures ∙ c.if-is_row_end.false) in
     let e = prefix_len-drop_yes is_in_row t i 0 at.0 goes in (
-      stretch_more t _ _ c.args.u i c.in-Ok.code (omega arith) at.0 at.1 c.loop-i.invariant.0 (c.push.ensures.items ∙ cond-true _ _ _ c.if-is_err.ensures.negation),
+      stretch_more t _ _ c.args.u i c.in_ok-code.code (omega arith) at.0 at.1 c.loop-i.invariant.0 c.in_ok-push.ensures.items,
       omega (arith, c.loop-i.invariant.1),
     )
 
