@@ -1,6 +1,7 @@
 -- Refusals of the view below, as a layer hands them on. Assumes nothing.
-use Rattle.std.proofs.Common.{◌≡◌, ℕ, zero, suc, ◌+◌, min, Bool, true, false, ltb, List, [], ◌∷◌, length, Some, None, Ok, Err, Option, Result, sym, refl, ap, ◌∙◌, ⊎_elim, arith}
+use Rattle.std.proofs.Common.{◌≡◌, ℕ, zero, suc, ◌+◌, min, Bool, true, false, ltb, List, [], ◌∷◌, length, Some, None, Ok, Err, Option, Result, sym, refl, ap, ◌∙◌, subst, ⊎_elim, arith}
 use Rattle.std.specs.Option.{option_map}
+use Rattle.std.specs.Result.{MatchResult, IsErrAnd}
 use Rattle.std.specs.List.{AllByRecursion}
 use Rattle.std.proofs.lemmas.Bool.{cond-true, cond-false, cond_both, cases_Bool, lt-ltb, le-ltb, ltb-true, ltb-false}
 use Rattle.buffer.specs.declared.fault.BufferFault.{BufferFault}
@@ -11,7 +12,7 @@ use Rattle.view.specs.declared.fault.Cause.{Cause}
 use Rattle.view.specs.declared.fault.Cause.TheVariants.{Buffer, PastEnd, NoLayer, OtherVerb, OutOfRange, BadCode, BadFold, NoRecord, TableFull, Asleep}
 use Rattle.view.specs.declared.fault.ViewFault.{ViewFault}
 use Rattle.view.specs.declared.order.Order.{Order}
-use Rattle.view.specs.Refusals.{cause_refusal, view_refusal, at_layer, deeper, with_steps, meant_for, first_cause, Rises}
+use Rattle.view.specs.Refusals.{cause_refusal, view_refusal, at_layer, deeper, with_steps, meant_for, first_cause}
 use Rattle.view.specs.Layers.{Records, hints, folds, tabs, wrap, widest_tab, narrowest_wrap, widest_wrap}
 use Rattle.view.specs.Orders.{adds, add_causes, remove_causes, width_causes, own_refusal, has_verb}
 use Rattle.view.specs.Stacks.{awake, first_place, meant_refusal, order_refusal_of}
@@ -143,14 +144,23 @@ pub order_here : (most : ℕ) (r : Records) (rs : List Records) (d : List ℕ) (
     → order_refusal_of most (r ∷ rs) d zero o w ≡ option_map (at_layer 0) (meant_refusal most (r ∷ rs) d zero o w)
 order_here most r rs d o w = cond-true (ltb 0 (suc (length rs))) _ _ (lt-ltb 0 (suc (length rs)) (omega arith))
 
--- what a risen answer was below
-pub risen_ok : {T : Type 0} (x r : Result T ViewFault) (y : T) → Rises x r → r ≡ Ok y → x ≡ Ok y
-risen_ok (Ok z) r y h e = sym h ∙ e
-risen_ok (Err f) r y h e = let z : ◌≡◌ {A = ℕ} 0 1 = cc in absurd (omega arith)
+-- two values of a struct that keeps a fact of one proof are one where they are one but for it
+pub same_but : {V L : Type 0} (P : V → Type 0) → ((z : V) → IsProp (P z)) → (make : (z : V) → P z → L) → (v w : V) (p : P v) (q : P w) → v ≡ w → make v p ≡ make w q
+same_but P once make v w p q e =
+    let Q : _ → Type 0 = λ z. (p : P z) → make z p ≡ make w q in
+    subst Q (sym e) (λ p. ap (make w) (once w p q)) p
 
-pub risen_err : {T : Type 0} (x r : Result T ViewFault) (f : ViewFault) → Rises x r → r ≡ Err f → (g : ViewFault) × ((x ≡ Err g) × (f ≡ deeper g))
-risen_err (Ok z) r f h e = let z : ◌≡◌ {A = ℕ} 0 1 = cc in absurd (omega arith)
-risen_err (Err g) r f h e = (g, (refl, (let z : f ≡ deeper g = cc in z)))
+-- what an answer was before its errors, and nothing else, were mapped by f
+module _ {T E F : Type 0} (f : E → F) (P : E → F → Type 0) (maps : (e : E) (z : F) → P e z → z ≡ f e) where
+  pub mapped_ok : (x : Result T E) (r : Result T F) (y : T) → MatchResult x (λ v. r ≡ Ok v) (λ e. IsErrAnd r (P e)) → r ≡ Ok y → x ≡ Ok y
+  mapped_ok (Ok v) r y m e = let i : v ≡ y = cc in ap Ok i
+  mapped_ok (Err g) (Ok w) y m e = absurd m
+  mapped_ok (Err g) (Err w) y m e = let z : ◌≡◌ {A = ℕ} 0 1 = cc in absurd (omega arith)
+
+  pub mapped_err : (x : Result T E) (r : Result T F) (z : F) → MatchResult x (λ v. r ≡ Ok v) (λ e. IsErrAnd r (P e)) → r ≡ Err z → (g : E) × ((x ≡ Err g) × (z ≡ f g))
+  mapped_err (Ok v) r z m e = let z : ◌≡◌ {A = ℕ} 0 1 = cc in absurd (omega arith)
+  mapped_err (Err g) (Ok w) z m e = absurd m
+  mapped_err (Err g) (Err w) z m e = (g, (refl, (let i : z ≡ w = cc in i ∙ maps g w m)))
 
 -- the top layer's refusals: no such verb, asleep, its own causes
 module _ (most : ℕ) (r : Records) (rs : List Records) (d : List ℕ) (o : Order) (w : List ℕ) where

@@ -4,16 +4,16 @@
 // document. A question costs one of the kind's and one of the view below; a change costs that of the view below, what the
 // kind does to follow it, and the counting of the new text. The length, the ceiling and whether the layer is awake are
 // kept as numbers and cost nothing.
-ghost use Rattle.std.specs.Prelude.{◌≡◌, ◌≤◌, ◌∷◌, length, if◌then◌else◌, MatchBool, nat_le};
+ghost use Rattle.std.specs.Prelude.{◌≡◌, ◌∷◌, length, if◌then◌else◌, MatchBool, nat_le, Some, None};
 ghost use Rattle.view.specs.Layers.{shown, growth, follow as followed};
 ghost use Rattle.view.specs.Seen.{text_at};
 ghost use Rattle.view.specs.Kinds.{Over, Behind, Raises};
-ghost use Rattle.layer.specs.Sound.{Sound};
+ghost use Rattle.layer.specs.Sound.{Sound, sound_once};
 ghost use Rattle.std.proofs.Common.{rules};
 ghost use Rattle.layer.specs.Carrying.{sound_means};
 
 use places::change::Change;
-use view::fault::{Cause, ViewFault, rise};
+use view::fault::{Cause, ViewFault};
 use view::kind::Kind;
 use view::order::Order;
 use view::view::View;
@@ -22,51 +22,51 @@ use view::view::View;
 const HIGHEST_CEILING: u64 = 1_073_741_824;
 
 #[derive(Drop)]
-pub struct Layer<V, K> {
+pub struct Layer<V: View, K: Kind> {
     below: V,
     kind: K,
     len: u32,
     ceiling: u32,
     awake: bool,
+    ghost sound: { Sound V.View below (K.Kind.records kind) len ceiling awake } by { sound_once V.View below (K.Kind.records kind) len ceiling awake },
 }
 
-// The own ceiling over one of `low`, and whether the layer is awake.
-fn topped<K: Kind>(low: u32) -> (u32, bool)
-    requires { low ≤ 1073741824 }
-    ensures { (result.1 ≡ nat_le (growth K.Kind.initial low) 1073741824) × (result.0 ≡ (if result.1 then growth K.Kind.initial low else low)) }
+// The own ceiling over one of `low`; none where it would be too high, so that the layer is asleep.
+fn grown<K: Kind>(low: u32) -> Option<u32>
+    ensures { result ≡ (if nat_le (growth K.Kind.initial low) 1073741824 then Some (growth K.Kind.initial low) else None) }
 {
     let high = K::grown(low);
     if high <= HIGHEST_CEILING {
-        (high as u32, true)
+        Some(high as u32)
     } else {
-        (low, false)
+        None
     }
 }
 
-impl<V: View, K: Kind> Layer<V, K> {
-    // Follows a change that led to the text below, and answers the own change.
-    fn carry(&mut self, change: Change) -> Change
-        requires sound { V.View.sound self.old.below }
-        requires behind { MatchBool self.old.awake (Behind V.View self.old.below (K.Kind.records self.old.kind) change) (Unit {0}) }
-        requires over { MatchBool self.old.awake (Over V.View self.old.below (followed (K.Kind.records self.old.kind) change)) (Unit {0}) }
-        ensures below { self.new.below ≡ self.old.below }
-        ensures numbers { (self.new.ceiling ≡ self.old.ceiling) × (self.new.awake ≡ self.old.awake) }
-        ensures awake { MatchBool self.old.awake ((K.Kind.records self.new.kind ≡ followed (K.Kind.records self.old.kind) change) × (self.new.len ≡ length (shown (followed (K.Kind.records self.old.kind) change) (text_at V.View self.old.below))) × Raises (K.Kind.records self.old.kind) (text_at V.View self.old.below) change self.old.len result) ((K.Kind.records self.new.kind ≡ K.Kind.records self.old.kind) × (self.new.len ≡ length (text_at V.View self.old.below)) × (result ≡ change)) }
-    {
-        if !self.awake {
-            self.len = self.below.len();
-            return change;
-        }
-        let own = self.kind.follow(&self.below, self.len, change);
-        self.len = self.kind.len(&self.below);
-        own
+// Lets the records of `kind` follow a change that led to the text of `below`, where the layer is awake; sets the length of
+// the own text, and answers its change.
+fn carry<V: View, K: Kind>(
+    below: &V,
+    kind: &mut K,
+    len: &mut u32,
+    awake: bool,
+    change: Change,
+) -> Change
+    requires behind { MatchBool awake (Behind V.View below.now (K.Kind.records kind.old) change) (Unit {0}) }
+    requires over { MatchBool awake (Over V.View below.now (followed (K.Kind.records kind.old) change)) (Unit {0}) }
+    ensures { MatchBool awake ((K.Kind.records kind.new ≡ followed (K.Kind.records kind.old) change) × (len.new ≡ length (shown (followed (K.Kind.records kind.old) change) (text_at V.View below.now))) × Raises (K.Kind.records kind.old) (text_at V.View below.now) change len.old result) ((K.Kind.records kind.new ≡ K.Kind.records kind.old) × (len.new ≡ length (text_at V.View below.now)) × (result ≡ change)) }
+{
+    if !awake {
+        *len = below.len();
+        return change;
     }
+    let own = kind.follow(below, *len, change);
+    *len = kind.len(below);
+    own
 }
 
 impl<V: View, K: Kind> View for Layer<V, K> {
     type Store = V::Store;
-
-    ghost sound = { λ l. Sound V.View l.below (K.Kind.records l.kind) l.len l.ceiling l.awake };
 
     ghost most = { V.View.most };
 
@@ -82,22 +82,23 @@ impl<V: View, K: Kind> View for Layer<V, K> {
 
     ghost fits = { Prim.search rules };
 
-    ghost means = { λ l s.
-        sound_means V.View.own l.below (record { sound = s.below; fits = V.View.fits l.below s.below; small = V.View.small l.below s.below })
-        (K.Kind.records l.kind) l.len l.ceiling l.awake s };
+    ghost means = { λ l.
+        sound_means V.View.own (record { fits = V.View.fits; small = V.View.small }) l.below (K.Kind.records l.kind) l.len l.ceiling l.awake l.sound };
 
     ghost small = { Prim.search rules };
 
     fn open(store: V::Store) -> Layer<V, K> {
         let below = V::open(store);
         let kind = K::new();
-        let (ceiling, awake) = topped::<K>(below.ceiling());
+        let low = below.ceiling();
+        let own = grown::<K>(low);
+        let awake = own.is_some();
         let len = if awake { kind.len(&below) } else { below.len() };
         Layer {
             below,
             kind,
             len,
-            ceiling,
+            ceiling: own.unwrap_or(low),
             awake,
         }
     }
@@ -152,16 +153,29 @@ impl<V: View, K: Kind> View for Layer<V, K> {
     }
 
     fn edit(&mut self, a: u32, r: u32, w: &[u32]) -> Result<Change, ViewFault> {
-        let change = rise(self.below.edit(a, r, w))?;
-        Ok(self.carry(change))
+        let change = self.below.edit(a, r, w).map_err(ViewFault::risen)?;
+        Ok(carry(
+            &self.below,
+            &mut self.kind,
+            &mut self.len,
+            self.awake,
+            change,
+        ))
     }
 
     fn order(&mut self, k: u32, order: Order, w: &[u32]) -> Result<Change, ViewFault> {
         if k > 0 {
-            return match rise(self.below.order(k - 1, order, w)) {
-                Ok(change) => Ok(self.carry(change)),
-                Err(fault) => Err(fault.from_above(k)),
-            };
+            let change = self
+                .below
+                .order(k - 1, order, w)
+                .map_err(|fault| fault.risen().from_above(k))?;
+            return Ok(carry(
+                &self.below,
+                &mut self.kind,
+                &mut self.len,
+                self.awake,
+                change,
+            ));
         }
         if !K::has_verb(order.verb) {
             return Err(Cause::OtherVerb { verb: order.verb }.here());
@@ -169,12 +183,8 @@ impl<V: View, K: Kind> View for Layer<V, K> {
         if !self.awake {
             return Err(Cause::Asleep.here());
         }
-        match self.kind.order(&self.below, order, w) {
-            Ok(change) => {
-                self.len = self.kind.len(&self.below);
-                Ok(change)
-            }
-            Err(cause) => Err(cause.here()),
-        }
+        let change = self.kind.order(&self.below, order, w).map_err(Cause::here)?;
+        self.len = self.kind.len(&self.below);
+        Ok(change)
     }
 }
