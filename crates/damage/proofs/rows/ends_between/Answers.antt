@@ -9,7 +9,7 @@ pub overflow_add-ends : goal.overflow_add-ends
 overflow_add-ends g c =
     let e = g.V.View in
     let v = c.args.view.now in
-    let few = ends_few e.most (e.stack v) (e.doc v) (g.met.V.View.means v c.requires) in
+    let few = ends_few e.most (e.stack v) (e.doc v) (g.met.V.View.means v) in
     omega (arith, few c.loop-i.i, c.loop-i.invariant.1)
 
 pub loop-i-init : goal.loop-i-init
