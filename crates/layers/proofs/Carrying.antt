@@ -10,12 +10,13 @@ use Rattle.places.proofs.Placing.{placed_le, placed_parts}
 use Rattle.view.specs.declared.fault.Cause.{Cause}
 use Rattle.view.specs.declared.order.Order.{Order}
 use Rattle.view.specs.Refusals.{first_cause}
-use Rattle.view.specs.Layers.{Records, hints, folds, tabs, wrap, marks_in, first}
+use Rattle.view.specs.Layers.{Records, hints, folds, tabs, wrap, marks_in}
 use Rattle.view.specs.Orders.{adds, meets, some, first_mark, without, new_mark, with_marks, obeyed, add_start, add_causes, obeyed_change}
 use Rattle.view.specs.Kinds.{Carries}
 use Rattle.layer.proofs.Marking.{Around, around}
 use Rattle.layer.proofs.Obeying.{KeepsMarks}
 use Rattle.tables.specs.Placing.{first_over, Counted}
+use Rattle.layers.specs.Marked.{KeptAsMarks, Verbs}
 use Rattle.layers.specs.Ordering.{gone_change, Adds, Removes}
 use Rattle.layers.proofs.Fitting.{same_change}
 
@@ -46,7 +47,7 @@ gone_change_lem p ms m place at start shown end e is place_is at_is shown-is end
     (omega (arith, ap (λ (z : Mark). z.takes) is))
 
 -- of two verbs it is the other one
-pub other_verb : (v a b : ℕ) → (eqb v a || eqb v b) ≡ true → (v ≡ b → ⊥) → eqb v a ≡ true
+pub other_verb : (v a b : ℕ) → (eqb v a || eqb v b) ≡ true → (v ≡ b → ⊥) → v ≡ a
 other_verb v a b h f = grind (arith, nat_tests)
 
 -- what is said of a table is said of the kind that holds it
@@ -112,3 +113,15 @@ module _ {K : Type 0} (r : Records) (m : KeepsMarks r) (ms' : List Mark) (k k' :
         e ∙ sym (changed_marks r m xs a b o w)),
   )
   adding causes more same le ok (Err f) h = (cond-true (adds r o.verb) _ _ more ∙ same ∙ h.0, h.1)
+
+-- an order to a layer of marks that removes one
+pub taking_out : {T K : Type 0} (r : List Mark → Records) → KeptAsMarks r → (add remove : ℕ) → Verbs r add remove → (f : T → K) (ms ms' : List Mark) (t t' : T) (xs : List ℕ) (n a b : ℕ) (o : Order) (w : List ℕ)
+    → o.verb ≡ remove → o.x ≤ n → Counted ms xs → (x : Result Change Cause) → Removes (meets (r []) a) ms ms' t t' o.x x → Carries (r ms) (r ms') (f t) (f t') xs n a b o w x
+taking_out r kept add remove verbs f ms ms' t t' xs n a b o w is inside ok x h =
+    let less : adds (r ms) o.verb ≡ false = verbs.adding ms o.verb ∙ ap (λ (v : ℕ). eqb v add) is ∙ verbs.apart in
+    let P : (Mark → Bool) → Type 0 = λ p. Removes p ms ms' (f t) (f t') o.x x in
+    let Q : List Mark → Type 0 = λ z. Removes (meets (r ms) a) z ms' (f t) (f t') o.x x in
+    let C : List Mark → Type 0 = λ z. Counted z xs in
+    let R : Records → Type 0 = λ z. Carries (r ms) z (f t) (f t') xs n a b o w x in
+    let own = subst Q (sym (kept.holds ms)) (subst P (sym (kept.meant ms a)) (removes_in f (meets (r []) a) ms ms' t t' o.x x h)) in
+    subst R (kept.replaced ms ms') (removes (r ms) (kept.marks ms) ms' (f t) (f t') xs n a b o w less inside (subst C (sym (kept.holds ms)) ok) x own)

@@ -1,15 +1,15 @@
--- What an order seeks among the records of a table, puts into it and takes out. Assumes nothing.
-use Rattle.std.specs.Prelude.{◌≡◌, Bool, true, false, ◌&&◌, List, MatchBool, ◌==◌, nat_le, nat_lt}
-use Rattle.places.specs.Marks.{Mark, past, put}
-use Rattle.view.specs.Orders.{overlaps, full}
-use Rattle.layers.specs.declared.finding.Sought.{Sought}
-use Rattle.layers.specs.declared.finding.Sought.TheVariants.{At, Around, Overlapping}
+-- The answer to putting a record into a table. Assumes nothing.
+use Rattle.std.specs.Prelude.{◌≡◌, List, false, true, Result, MatchResult}
+use Rattle.places.specs.Marks.{Mark, put}
+use Rattle.buffer.specs.Refusals.{told}
+use Rattle.view.specs.declared.fault.Cause.{Cause}
+use Rattle.view.specs.Refusals.{cause_refusal}
+use Rattle.view.specs.Layers.{most_records}
+use Rattle.view.specs.Orders.{full}
 
-abbrev pub sought_by : Sought → Mark → Bool
-sought_by (At place) m = m.at == place
-sought_by (Around place) m = nat_le m.at place && nat_lt place (past m)
-sought_by (Overlapping start end) m = overlaps start end m
-
--- the answer to putting m into the table t, now t', whose marks were ms and now are ms': not where it is full
-abbrev pub Puts : {T : Type 0} → Mark → List Mark → List Mark → T → T → Bool → Type 0
-Puts m ms ms' t t' r = MatchBool r ((full ms ≡ false) × (ms' ≡ put m ms)) ((full ms ≡ true) × (t' ≡ t))
+-- m is put into the table t, now t', whose marks were ms and now are ms': not where it is full
+abbrev pub Puts : {T : Type 0} → Mark → List Mark → List Mark → T → T → Result (Unit {0}) Cause → Type 0
+Puts m ms ms' t t' r =
+    MatchResult r
+    (λ _. (full ms ≡ false) × (ms' ≡ put m ms))
+    (λ f. (full ms ≡ true) × (cause_refusal f ≡ told 9 most_records) × (t' ≡ t))

@@ -1,29 +1,25 @@
-// A layer of folds. Each question and each order costs one pass over the folds at most, a code or a place of the text
-// above one pass for each of them.
-ghost use Rattle.std.specs.Prelude.{◌≡◌, ◌+◌, ◌<◌, []};
+// A layer of folds.
+ghost use Rattle.std.specs.Prelude.{◌≡◌, ◌+◌, ◌<◌};
 ghost use Rattle.places.specs.Marks.{dropped, lowest, highest};
 ghost use Rattle.view.specs.Layers.{folds};
+ghost use Rattle.view.specs.Orders.{overlaps, some};
 ghost use Rattle.tables.specs.Folds.{fold_mark};
 ghost use Rattle.tables.specs.Tables.{marks_of};
-ghost use Rattle.layers.specs.Ordering.{fold_causes, Adds};
-ghost use Rattle.std.proofs.Common.{rules};
+ghost use Rattle.layers.specs.Marked.{folds_kept, fold_verbs};
 
-use crate::finding::{Sought, any, put_in, take_out};
-use crate::over::{code_over, under_over};
+use crate::finding::{place_below, put_in};
+use crate::marked::Marked;
+use crate::marks::Marks;
 use places::change::Change;
 use tables::fold::Fold;
-use tables::placing::{first_over, last_over, length_over};
+use tables::placing::first_over;
 use tables::record::Record;
 use tables::table::Table;
 use view::fault::Cause;
-use view::kind::Kind;
 use view::order::Order;
 use view::view::View;
 
-#[derive(Drop)]
-pub struct Folds {
-    table: Table<Fold>,
-}
+pub type Folds = Marks<Fold>;
 
 // Whether `change` drops `record`. Constant time.
 fn is_dropped<R: Record>(record: &R, change: Change) -> bool
@@ -51,76 +47,46 @@ fn reach<R: Record>(table: &Table<R>, change: Change) -> (u32, u32)
     (low, high)
 }
 
-impl Folds {
-    // Folds the codes of the text below from `a` to `b`, on an order for the document place `x`.
-    fn add(&mut self, a: u32, b: u32, x: u32) -> Result<Change, Cause>
-        ensures { Adds (folds (marks_of fold_mark self.old.table)) (fold_causes (marks_of fold_mark self.old.table) a b x) (marks_of fold_mark self.new.table) self.old self.new a b [] result }
-    {
-        if b <= a || any(&self.table, Sought::Overlapping { start: a, end: b }) {
-            return Err(Cause::BadFold { place: x });
-        }
-        let start = first_over(&self.table, a);
-        if !put_in(&mut self.table, Fold::new(a, b)) {
-            return Err(Cause::TableFull { kept: 64 });
-        }
-        Ok(Change {
-            start,
-            old: b - a,
-            new: 1,
-        })
-    }
+// Whether a fold overlaps the codes of the text below from `a` to `b`. One pass.
+fn is_overlapped(table: &Table<Fold>, a: u32, b: u32) -> bool
+    ensures { result ≡ some (overlaps a b) (marks_of fold_mark table.now) }
+{
+    let records = table.records();
+    let apart = records
+        .iter()
+        .take_while(|fold| !(a < fold.past() && fold.place() < b))
+        .count();
+    apart < records.len()
 }
 
-impl Kind for Folds {
-    ghost records = { λ k. folds (marks_of fold_mark k.table) };
+impl Marked for Fold {
+    const ADDS: char = 'f';
 
-    ghost initial = { folds [] };
+    const REMOVES: char = 'u';
 
-    ghost grows = { Prim.search rules };
+    ghost ADDS = { 102 };
 
-    ghost speaks = { Prim.search rules };
+    ghost REMOVES = { 117 };
 
-    ghost begins = { Prim.search rules };
+    ghost records = { folds };
 
-    fn new() -> Folds {
-        Folds {
-            table: Table::new(Fold::new(0, 0)),
-        }
-    }
+    ghost kept = { folds_kept };
+
+    ghost verbs = { fold_verbs };
 
     fn grown(ceiling: u32) -> u64 {
         u64::from(ceiling)
     }
 
-    fn has_verb(verb: char) -> bool {
-        matches!(verb, 'f' | 'u')
+    fn is_meant(&self, l: u32) -> bool {
+        self.place() <= l && l < self.past()
     }
 
-    fn len<V: View>(&self, below: &V) -> u32 {
-        length_over(&self.table, below.len())
-    }
-
-    fn code<V: View>(&self, below: &V, u: u32) -> u32 {
-        code_over(&self.table, below, u)
-    }
-
-    fn under<V: View>(&self, below: &V, u: u32) -> u32 {
-        under_over(&self.table, below, u)
-    }
-
-    fn first<V: View>(&self, below: &V, l: u32) -> u32 {
-        first_over(&self.table, l)
-    }
-
-    fn last<V: View>(&self, below: &V, l: u32) -> u32 {
-        last_over(&self.table, l)
-    }
-
-    fn follow<V: View>(&mut self, below: &V, len: u32, change: Change) -> Change {
-        let (low, high) = reach(&self.table, change);
-        let start = first_over(&self.table, low);
-        let end = first_over(&self.table, high);
-        self.table.follow(change);
+    fn follow_all<V: View>(table: &mut Table<Fold>, below: &V, len: u32, change: Change) -> Change {
+        let (low, high) = reach(table, change);
+        let start = first_over(table, low);
+        let end = first_over(table, high);
+        table.follow(change);
         Change {
             start,
             old: end.saturating_sub(start),
@@ -128,23 +94,28 @@ impl Kind for Folds {
         }
     }
 
-    fn order<V: View>(&mut self, below: &V, order: Order, w: &[u32]) -> Result<Change, Cause> {
-        let a = match below.first(order.x) {
-            Ok(a) => a,
-            Err(_) => return Err(Cause::PastEnd { place: order.x }),
-        };
-        if order.verb == 'u' {
-            return take_out(&mut self.table, Sought::Around { place: a }, order.x);
-        }
-        let b = match below.first(order.y) {
-            Ok(b) => b,
-            Err(_) => return Err(Cause::PastEnd { place: order.y }),
-        };
+    fn add<V: View>(
+        table: &mut Table<Fold>,
+        below: &V,
+        order: Order,
+        w: &[u32],
+    ) -> Result<Change, Cause> {
+        let a = place_below(below, order.x)?;
+        let b = place_below(below, order.y)?;
         if order.y <= order.x {
             return Err(Cause::OutOfRange {
                 value: u64::from(order.x),
             });
         }
-        self.add(a, b, order.x)
+        if b <= a || is_overlapped(table, a, b) {
+            return Err(Cause::BadFold { place: order.x });
+        }
+        let start = first_over(table, a);
+        put_in(table, Fold::new(a, b))?;
+        Ok(Change {
+            start,
+            old: b - a,
+            new: 1,
+        })
     }
 }

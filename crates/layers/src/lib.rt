@@ -4,4 +4,6 @@
 mod finding;
 pub mod folds;
 pub mod hints;
+pub mod marked;
+pub mod marks;
 mod over;

@@ -7,21 +7,18 @@ ghost use Rattle.tables.specs.Placing.{text_over, under_over, Counted};
 use tables::placing::{Held, held_at};
 use tables::record::Record;
 use tables::table::Table;
+use view::reading::code_at;
 use view::view::View;
 
 // The code behind the place `u`. One pass over the records.
 pub fn code_over<R: Record, V: View>(table: &Table<R>, below: &V, u: u32) -> u32
-    requires sound { V.View.sound below.now }
     requires counted { Counted (marks_of R.Record.mark table.now) (text_at V.View below.now) }
     requires within { u ≤ length (text_over (marks_of R.Record.mark table.now) (text_at V.View below.now)) }
     ensures { result ≡ slice_index (text_over (marks_of R.Record.mark table.now) (text_at V.View below.now)) u }
 {
     match held_at(table, u) {
         Held::Shown { index, offset } => table.records()[index].code(offset),
-        Held::Below { place } => match below.code(place) {
-            Ok(code) => code,
-            Err(_) => 0,
-        },
+        Held::Below { place } => code_at(below, place),
     }
 }
 

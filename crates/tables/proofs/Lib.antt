@@ -1,5 +1,4 @@
 pub mod Marking
 pub mod Tables
-pub mod Shifting
-pub mod Sweeping
+pub mod Following
 pub mod Overs

@@ -1,66 +1,39 @@
 -- Places over marks from the sums that code has of the records. Assumes nothing.
-use Rattle.std.proofs.Common.{◌≡◌, ℕ, zero, suc, ◌+◌, ◌-◌, ◌<◌, ◌≤◌, max, Bool, true, false, ltb, leb, List, [], ◌∷◌, map, length, get_or, take, sym, refl, ap, ◌∙◌, subst, arith}
+use Rattle.std.proofs.Common.{◌≡◌, ℕ, zero, suc, ◌+◌, ◌-◌, ◌<◌, ◌≤◌, max, Bool, true, false, ltb, leb, List, [], ◌∷◌, map, length, get_or, take, sym, refl, ap, ◌∙◌, subst, arith, Some, slice_get}
 use Rattle.std.specs.List.{prefix_len}
 use Rattle.std.proofs.lemmas.Bool.Decides.{nat_tests}
-use Rattle.std.proofs.lemmas.List.{get_or_default, get_or-map, length-map, take-map, take_all}
-use Rattle.std.proofs.lemmas.List.Sums.{prefix_len-le-length}
+use Rattle.std.proofs.lemmas.List.{get_or_default, get_or-map, length-map, take_all}
+use Rattle.std.proofs.lemmas.List.Sums.{prefix_len-le-length, prefix_len_passes, prefix_len_stops}
 use Rattle.places.specs.Maps.{Finds}
 use Rattle.places.specs.Marks.{Mark, past, Placed, taken_in, shown_in}
 use Rattle.places.proofs.Placing.{placed_room}
 use Rattle.places.proofs.Laying.{laid_length, laid_finds}
 use Rattle.places.proofs.Counting.{end_by, taken_more, shown_more, end_more, taken_front}
 use Rattle.places.proofs.Summing.{first_sum, last_sum, last_sum_inside, under_sum, shown_below, under_mark, shown_mark}
-use Rattle.tables.specs.Placing.{text_over, under_over, first_over, last_over, Counted, Begun, Holds}
+use Rattle.tables.specs.Placing.{text_over, under_over, first_over, last_over, end_of, Counted, Begun, Holds}
 use Rattle.tables.specs.declared.placing.Held.TheVariants.{Shown, Below}
 
--- the first records show and take what their marks do
-module _ {R : Type 0} (mark : R → Mark) (rs qs : List R) (same : rs ≡ qs) (n s : ℕ) where
-  pub shown_first : s ≡ shown_in (map mark (take n rs)) → s ≡ shown_in (take n (map mark qs))
-  shown_first e = e ∙ ap shown_in (sym (take-map mark n rs)) ∙ ap (λ (z : List R). shown_in (take n (map mark z))) same
+-- where the first marks end, by the last of them
+end_is : (p : ℕ) (ms : List Mark) → end_of p ms ≡ end_by p ms
+end_is p [] = refl
+end_is p (m ∷ ms) = end_is (past m) ms
 
-  pub taken_first : s ≡ taken_in (map mark (take n rs)) → s ≡ taken_in (take n (map mark qs))
-  taken_first e = e ∙ ap taken_in (sym (take-map mark n rs)) ∙ ap (λ (z : List R). taken_in (take n (map mark z))) same
+-- and by the last of the records that they are of
+pub end_last : {R : Type 0} (mark : R → Mark) (p : ℕ) (rs : List R) (x : R) → Some x ≡ slice_get rs (length rs - 1) → past (mark x) ≡ end_of p (map mark rs)
+end_last mark p [] x e = cc
+end_last mark p (r ∷ []) x e = cc
+end_last mark p (r ∷ s ∷ rs) x e =
+    let next : length (r ∷ s ∷ rs) - 1 ≡ suc (length (s ∷ rs) - 1) = omega arith in
+    end_last mark (past (mark r)) (s ∷ rs) x (subst (λ (k : ℕ). Some x ≡ slice_get (r ∷ s ∷ rs) k) next e)
 
--- those that a search counts pass, and the next does not
-leading_yes : {X : Type 0} (p : X → Bool) (xs : List X) (k : ℕ) (e : X) → k < prefix_len p xs → p (get_or xs k e) ≡ true
-leading_yes p [] k e h = absurd (omega arith)
-leading_yes p (x ∷ xs) zero e h = grind (arith, nat_tests)
-leading_yes p (x ∷ xs) (suc k) e h = leading_yes p xs k e (grind (arith, nat_tests))
-
-leading_no : {X : Type 0} (p : X → Bool) (xs : List X) (n : ℕ) (e : X) → n ≡ prefix_len p xs → n < length xs → p (get_or xs n e) ≡ false
-leading_no p [] n e q h = absurd (omega arith)
-leading_no p (x ∷ xs) zero e q h = grind (arith, nat_tests)
-leading_no p (x ∷ xs) (suc n) e q h = leading_no p xs n e (grind (arith, nat_tests)) (omega arith)
-
--- where the first records end, from a read of the last of them
-pub past_read : {R : Type 0} (mark : R → Mark) (rs : List R) (i k : ℕ) (x : R) (e : Mark) → i < length rs → x ≡ get_or rs i x → i ≡ k → past (mark x) ≡ past (get_or (map mark rs) k e)
-past_read {R = R} mark rs i k x e l read same = ap (λ (z : R). past (mark z)) read ∙ sym (ap past (get_or-map mark rs i x e l)) ∙ ap (λ (z : ℕ). past (get_or (map mark rs) z e)) same
-
-none : Mark
-none = record { at = 0; takes = 0; shows = [] }
-
--- the place behind the first n marks
-end_is : (ms : List Mark) (n r : ℕ) → n ≤ length ms → (n ≡ 0 → r ≡ 0) → ((k : ℕ) (e : Mark) → k + 1 ≡ n → r ≡ past (get_or ms k e)) → r ≡ end_by 0 (take n ms)
-end_is ms zero r l z s = z refl
-end_is ms (suc k) r l z s =
-    let m : Mark = get_or ms k none in
-    let read : m ≡ get_or ms k m = get_or_default ms k none m (omega arith) in
-    let next : k + 1 ≡ suc k = omega arith in
-    s k none next ∙ sym (end_more ms k m (omega arith) read) ∙ ap (λ (i : ℕ). end_by 0 (take i ms)) next
-
--- a search counts no more records than there are
-pub counted_few : {R : Type 0} (mark : R → Mark) (p : Mark → Bool) (qs rs : List R) (n : ℕ) → n ≡ prefix_len p (map mark qs) → rs ≡ qs → n ≤ length rs
-counted_few mark p qs rs n e same = omega (arith, prefix_len-le-length p (map mark qs), length-map qs mark, ap length same)
-
--- where the first n records end
-pub end_of : {R : Type 0} (mark : R → Mark) (rs qs : List R) → rs ≡ qs → (n r : ℕ) → n ≤ length rs → (n ≡ 0 → r ≡ 0)
-    → ((k : ℕ) (e : Mark) → k + 1 ≡ n → r ≡ past (get_or (map mark rs) k e)) → r ≡ end_by 0 (take n (map mark qs))
-end_of {R = R} mark rs qs same n r l z s = end_is (map mark rs) n r (omega (arith, length-map rs mark)) z s ∙ ap (λ (w : List R). end_by 0 (take n (map mark w))) same
+-- a record that was read, and its mark
+pub mark_read : {R : Type 0} (mark : R → Mark) (rs qs : List R) (i : ℕ) (x : R) → rs ≡ qs → i < length rs → x ≡ get_or rs i x → mark x ≡ get_or (map mark qs) i (mark x)
+mark_read mark rs qs i x same l read = ap mark read ∙ sym (get_or-map mark rs i x (mark x) l) ∙ ap (λ z. get_or (map mark z) i (mark x)) same
 
 module _ (ms : List Mark) (xs : List ℕ) (h : Counted ms xs) where
-  pub length-by : (below n shown taken r : ℕ) → length xs ≡ below → length ms ≤ n → shown ≡ shown_in (take n ms) → taken ≡ taken_in (take n ms)
+  pub length_by : (below n shown taken r : ℕ) → length xs ≡ below → length ms ≤ n → shown ≡ shown_in (take n ms) → taken ≡ taken_in (take n ms)
       → ((z : ℕ) → z < 4294967296 → z + taken ≡ below + shown → r ≡ z) → r ≡ length (text_over ms xs)
-  length-by below n shown taken r b l s t counts =
+  length_by below n shown taken r b l s t counts =
       let all : take n ms ≡ ms = take_all n ms l in
       counts (length (text_over ms xs)) (omega (arith, h.2)) (omega (arith, laid_length ms xs h.0, ap shown_in all, ap taken_in all))
 
@@ -68,22 +41,26 @@ module _ (ms : List Mark) (xs : List ℕ) (h : Counted ms xs) where
     finds : Finds (under_over ms xs) (first_over ms xs) (last_over ms xs) (length (text_over ms xs)) (length xs)
     finds = laid_finds ms xs h.0
 
+    -- the first mark that a search does not count does not pass
+    stopped : (p : Mark → Bool) (n : ℕ) (e : Mark) → n ≡ prefix_len p ms → n < length ms → p (get_or ms n e) ≡ false
+    stopped p n e found q = subst (λ (k : ℕ). k < length ms → p (get_or ms k e) ≡ false) (sym found) (prefix_len_stops p ms e) q
+
     first_small : first_over ms xs l < 4294967296
     first_small = omega (arith, finds.first_in l inside, h.2)
 
     last_small : last_over ms xs l < 4294967296
     last_small = omega (arith, finds.last_in l inside, h.2)
 
-    pub first_by : (n base shown taken r : ℕ) → n ≡ prefix_len (λ m. ltb m.at l) ms → base ≡ max (end_by 0 (take n ms)) l
+    pub first_by : (n end base shown taken r : ℕ) → n ≡ prefix_len (λ m. ltb m.at l) ms → end ≡ end_of 0 (take n ms) → base ≡ max end l
         → shown ≡ shown_in (take n ms) → taken ≡ taken_in (take n ms)
         → ((m : ℕ) → m < 4294967296 → m + taken ≡ base + shown → r ≡ m) → r ≡ first_over ms xs l
-    first_by n base shown taken r found b s t counts =
+    first_by n end base shown taken r found e b s t counts =
         let sum = first_sum ms xs h.0 n (omega (arith, prefix_len-le-length (λ (m : Mark). ltb m.at l) ms)) l inside
-        (λ k e q. let yes = leading_yes (λ (m : Mark). ltb m.at l) ms k e (omega arith) in grind (arith, nat_tests))
-        (λ e q. let no = leading_no (λ (m : Mark). ltb m.at l) ms n e found q in grind (arith, nat_tests)) in
-        counts (first_over ms xs l) first_small (omega arith)
+        (λ k e q. let yes = prefix_len_passes (λ (m : Mark). ltb m.at l) ms k e (omega arith) in grind (arith, nat_tests))
+        (λ e q. let no = stopped (λ (m : Mark). ltb m.at l) n e found q in grind (arith, nat_tests)) in
+        counts (first_over ms xs l) first_small (omega (arith, end_is 0 (take n ms)))
 
-    module _ (n end shown taken : ℕ) (found : n ≡ prefix_len (λ m. leb m.at l) ms) (e : end ≡ end_by 0 (take n ms))
+    module _ (n end shown taken : ℕ) (found : n ≡ prefix_len (λ m. leb m.at l) ms) (e : end ≡ end_of 0 (take n ms))
         (s : shown ≡ shown_in (take n ms)) (t : taken ≡ taken_in (take n ms)) where
       begun : n ≤ length ms
       begun = omega (arith, prefix_len-le-length (λ (m : Mark). leb m.at l) ms)
@@ -91,39 +68,36 @@ module _ (ms : List Mark) (xs : List ℕ) (h : Counted ms xs) where
       pub last_by : (r : ℕ) → end ≤ l → ((m : ℕ) → m < 4294967296 → m + taken ≡ l + shown → r ≡ m) → r ≡ last_over ms xs l
       last_by r b counts =
           let sum = last_sum ms xs h.0 n begun l inside
-          (λ m q. let no = leading_no (λ (m : Mark). leb m.at l) ms n m found q in grind (arith, nat_tests))
-          (omega arith) in
-          counts (last_over ms xs l) last_small (omega arith)
+          (λ m q. let no = stopped (λ (m : Mark). leb m.at l) n m found q in grind (arith, nat_tests))
+          (omega (arith, end_is 0 (take n ms))) in
+          counts (last_over ms xs l) last_small (omega (arith, end_is 0 (take n ms)))
 
       pub last_by_inside : (less r : ℕ) → l < end → (taken < 4294967296 → less ≡ taken + 1)
           → ((m : ℕ) → m < 4294967296 → m + less ≡ end + shown → r ≡ m) → r ≡ last_over ms xs l
       last_by_inside less r b one counts =
           let sum = last_sum_inside ms xs h.0 n begun l inside
-          (λ k m q. let yes = leading_yes (λ (m : Mark). leb m.at l) ms k m (omega arith) in grind (arith, nat_tests))
-          (omega arith) in
+          (λ k m q. let yes = prefix_len_passes (λ (m : Mark). leb m.at l) ms k m (omega arith) in grind (arith, nat_tests))
+          (omega (arith, end_is 0 (take n ms))) in
           let few : taken < 4294967296 = omega (arith, taken_front ms n, placed_room ms 0 (length xs) h.0, h.1) in
-          counts (last_over ms xs l) last_small (omega (arith, one few))
+          counts (last_over ms xs l) last_small (omega (arith, end_is 0 (take n ms), one few))
 
 -- a record read at i, and the test whether it begins by u
-module _ {R : Type 0} (mark : R → Mark) (rs : List R) (u i place : ℕ) (x : R) (l : i < length rs) (read : x ≡ get_or rs i x) (p : place ≡ (mark x).at) where
-  record_at : (e : Mark) → (get_or (map mark rs) i e).at ≡ place
-  record_at e = ap (λ (m : Mark). m.at) (get_or-map mark rs i x e l ∙ ap mark (sym read)) ∙ sym p
+module _ {R : Type 0} (mark : R → Mark) (rs qs : List R) (u i place shown taken : ℕ) (x : R) (same : rs ≡ qs) (l : i < length rs) (read : x ≡ get_or rs i x) (p : place ≡ (mark x).at)
+    (s : shown ≡ shown_in (take i (map mark qs))) (t : taken ≡ taken_in (take i (map mark qs))) where
+  place_at : (e : Mark) → (get_or (map mark qs) i e).at ≡ place
+  place_at e =
+      let inside : i < length (map mark qs) = omega (arith, length-map qs mark, ap length same) in
+      ap (λ (m : Mark). m.at) (sym (mark_read mark rs qs i x same l read ∙ get_or_default (map mark qs) i (mark x) e inside)) ∙ sym p
 
-  pub begun_on : leb (place + shown_in (map mark (take i rs))) (u + taken_in (map mark (take i rs))) ≡ true
-      → (k : ℕ) (e : Mark) → k + 1 ≡ i + 1 → (get_or (map mark rs) k e).at + shown_in (take k (map mark rs)) ≤ u + taken_in (take k (map mark rs))
+  pub begun_on : true ≡ leb (place + shown) (u + taken) → (k : ℕ) (e : Mark) → k + 1 ≡ i + 1 → (get_or (map mark qs) k e).at + shown_in (take k (map mark qs)) ≤ u + taken_in (take k (map mark qs))
   begun_on fits k e q =
-      let here : (get_or (map mark rs) i e).at + shown_in (take i (map mark rs)) ≤ u + taken_in (take i (map mark rs)) =
-      (let a = record_at e in let s = ap shown_in (take-map mark i rs) in let t = ap taken_in (take-map mark i rs) in grind (arith, nat_tests)) in
-      let same : i ≡ k = omega arith in
-      subst (λ (z : ℕ). (get_or (map mark rs) z e).at + shown_in (take z (map mark rs)) ≤ u + taken_in (take z (map mark rs))) same here
+      let at = place_at e in
+      let here : (get_or (map mark qs) i e).at + shown_in (take i (map mark qs)) ≤ u + taken_in (take i (map mark qs)) = grind (arith, nat_tests) in
+      let same_place : i ≡ k = omega arith in
+      subst (λ (z : ℕ). (get_or (map mark qs) z e).at + shown_in (take z (map mark qs)) ≤ u + taken_in (take z (map mark qs))) same_place here
 
-  pub begun_here : leb (place + shown_in (map mark (take i rs))) (u + taken_in (map mark (take i rs))) ≡ false
-      → (e : Mark) → u + taken_in (take i (map mark rs)) < (get_or (map mark rs) i e).at + shown_in (take i (map mark rs))
-  begun_here past e =
-      let a = record_at e in
-      let s = ap shown_in (take-map mark i rs) in
-      let t = ap taken_in (take-map mark i rs) in
-      grind (arith, nat_tests)
+  pub begun_here : false ≡ leb (place + shown) (u + taken) → (e : Mark) → u + taken_in (take i (map mark qs)) < (get_or (map mark qs) i e).at + shown_in (take i (map mark qs))
+  begun_here late e = let at = place_at e in grind (arith, nat_tests)
 
 taken_at : (ms : List Mark) (i p n : ℕ) (e : Mark) → Placed p ms n → i < length ms → p + taken_in (take i ms) ≤ (get_or ms i e).at
 taken_at [] i p n e h l = absurd (omega arith)
@@ -171,34 +145,6 @@ module _ (ms : List Mark) (xs : List ℕ) (h : Counted ms xs) (u n : ℕ) (small
         let here : (under_over ms xs u ≡ m.at) × (offset < length m.shows) × (get_or (text_over ms xs) u 0 ≡ get_or m.shows offset 0) =
         (under_mark ms xs h.0 i m within read u start sum from to, l, shown_mark ms xs h.0 i m within read u start sum from to ∙ ap (λ (z : ℕ). get_or m.shows z 0) (sym o)) in
         (within, λ d. subst (λ (z : Mark). (under_over ms xs u ≡ z.at) × (offset < length z.shows) × (get_or (text_over ms xs) u 0 ≡ get_or z.shows offset 0)) (read ∙ get_or_default ms i m d within) here)
-
--- the same of records, by what code has of them
-module _ {R : Type 0} (mark : R → Mark) (rs : List R) (u n : ℕ) (small : u < 4294967296) (few : n ≤ length rs) (cut : Begun (map mark rs) u n)
-    (xs : List ℕ) (inside : u ≤ length (text_over (map mark rs) xs)) (h : Counted (map mark rs) xs) where
-  begun_few : n ≤ length (map mark rs)
-  begun_few = omega (arith, length-map rs mark)
-
-  module _ (i : ℕ) (x : R) (place shown taken start : ℕ) (last : i + 1 ≡ n) (read : x ≡ get_or rs i x) (p : place ≡ (mark x).at)
-      (s : shown ≡ shown_in (map mark (take i rs))) (t : taken ≡ taken_in (map mark (take i rs)))
-      (counts : (z : ℕ) → z < 4294967296 → z + taken ≡ place + shown → start ≡ z) where
-    mark_read : mark x ≡ get_or (map mark rs) i (mark x)
-    mark_read = ap mark read ∙ sym (get_or-map mark rs i x (mark x) (omega arith))
-
-    pub shown_over : (offset : ℕ) → offset ≡ u - start → offset < length (mark x).shows → Holds (map mark rs) xs u (Shown i offset)
-    shown_over =
-        shown_by (map mark rs) xs h u n small inside begun_few cut i (mark x) place shown taken start last mark_read p
-        (shown_first mark rs rs refl i shown s) (taken_first mark rs rs refl i taken t) counts
-
-    pub ends_over : length (mark x).shows ≤ u - start → end_by 0 (take n (map mark rs)) + shown_in (take n (map mark rs)) ≤ u + taken_in (take n (map mark rs))
-    ends_over =
-        ends_by (map mark rs) xs h u n small inside begun_few cut i (mark x) place shown taken start last mark_read p
-        (shown_first mark rs rs refl i shown s) (taken_first mark rs rs refl i taken t) counts
-
-  pub below_over : (shown taken r : ℕ) → shown ≡ shown_in (map mark (take n rs)) → taken ≡ taken_in (map mark (take n rs))
-      → ((z : ℕ) → z < 4294967296 → z + shown ≡ u + taken → r ≡ z)
-      → end_by 0 (take n (map mark rs)) + shown_in (take n (map mark rs)) ≤ u + taken_in (take n (map mark rs)) → Holds (map mark rs) xs u (Below r)
-  below_over shown taken r s t counts =
-      below_by (map mark rs) xs h u n small inside begun_few cut shown taken r (shown_first mark rs rs refl n shown s) (taken_first mark rs rs refl n taken t) counts
 
 -- no mark shows or takes anything before the first one
 pub ends_none : (ms : List Mark) (u n : ℕ) → n ≡ 0 → end_by 0 (take n ms) + shown_in (take n ms) ≤ u + taken_in (take n ms)

@@ -1,31 +1,32 @@
--- The records of a table, and how a search goes through them. Assumes nothing.
-use Rattle.std.proofs.Common.{◌≡◌, ℕ, ◌+◌, ◌<◌, ◌≤◌, Bool, true, false, cond, List, [], ◌∷◌, map, length, get_or, take, drop, sym, refl, ap, ◌∙◌, arith, rules}
-use Rattle.std.proofs.lemmas.List.{same_lists, places}
-use Rattle.std.proofs.lemmas.List.Sums.{prefix_len-drop_yes, prefix_len-drop_no, prefix_len-drop_all}
+-- Searches of a table, which ask the marks of its records. Assumes nothing.
+use Rattle.std.proofs.Common.{◌≡◌, ℕ, ◌+◌, Bool, false, cond, List, [], ◌∷◌, map, length, sym, refl, ap, ◌∙◌}
+use Rattle.std.proofs.iter.Yields.{fronts}
+use Rattle.std.proofs.lemmas.Iterator.{YieldsList-from_slice}
+use Rattle.std.proofs.lemmas.Iterator.Consumers.{count_from_yields_List}
+use Rattle.std.proofs.lemmas.Iterator.Search.{YieldsList-from_take_while}
+use Rattle.std.proofs.lemmas.List.Folds.{length-prefix_len}
+use Rattle.std.specs.declared.iter.TakeWhile.{TakeWhile}
+use Rattle.std.specs.declared.slice.Iter.{Iter}
+use Rattle.std.specs.Fn.{CalledAt}
+use Rattle.std.specs.Iterator.{Drains}
+use Rattle.std.specs.Iterator.Adapters.{take_while_source, take_while_done, take_while_callee, take_while_steps}
 use Rattle.std.specs.List.{prefix_len}
+use Rattle.std.specs.Slice.Iter.{iter_rest}
+use Rattle.places.specs.Marks.{Mark}
+use denote.Param.Members.{Mut}
+use denote.Ref.{Bor}
 
--- the first n, where n is how many the first `count` are
-pub records_cut : {X : Type 0} (xs : List X) (count n : ℕ) → n ≡ length (take count xs) → take n xs ≡ take count xs
-records_cut xs count n e =
-    same_lists (take n xs) (take count xs)
-    (search (rules, places))
-    (λ k d h. grind (arith, places))
+prefix_len-map : {X Y : Type 0} (p : Y → Bool) (f : X → Y) (xs : List X) → prefix_len p (map f xs) ≡ prefix_len (λ x. p (f x)) xs
+prefix_len-map p f [] = refl
+prefix_len-map p f (x ∷ xs) = ap (λ (n : ℕ). cond (p (f x)) (1 + n) 0) (prefix_len-map p f xs)
 
--- a search that asks the marks of records, one record after the other
-pub leading_map : {X Y : Type 0} (p : Y → Bool) (f : X → Y) (xs : List X) → prefix_len p (map f xs) ≡ prefix_len (λ x. p (f x)) xs
-leading_map p f [] = refl
-leading_map p f (x ∷ xs) = ap (λ (n : ℕ). cond (p (f x)) (1 + n) 0) (leading_map p f xs)
-
--- what was found in the records is found in their marks
-pub in_marks : {X Y : Type 0} (p : Y → Bool) (f : X → Y) (xs ys : List X) (n : ℕ) → n ≡ prefix_len (λ x. p (f x)) xs → xs ≡ ys → n ≡ prefix_len p (map f ys)
-in_marks p f xs ys n e same = e ∙ sym (leading_map p f xs) ∙ ap (λ z. prefix_len p (map f z)) same
-
-module _ {X : Type 0} (p : X → Bool) (xs : List X) (i : ℕ) (now : i + prefix_len p (drop i xs) ≡ prefix_len p xs) where
-  pub leading_on : (x : X) → i < length xs → x ≡ get_or xs i x → p x ≡ true → i + 1 + prefix_len p (drop (i + 1) xs) ≡ prefix_len p xs
-  leading_on x h read e = omega (arith, now, prefix_len-drop_yes p xs i x h (ap p (sym read) ∙ e))
-
-  pub leading_here : (x : X) → i < length xs → x ≡ get_or xs i x → p x ≡ false → i ≡ prefix_len p xs
-  leading_here x h read e = omega (arith, now, prefix_len-drop_no p xs i x h (ap p (sym read) ∙ e))
-
-  pub leading_end : length xs ≤ i → i ≡ prefix_len p xs
-  leading_end h = omega (arith, now, prefix_len-drop_all p xs i h)
+-- `take_while` over records and then `count`, where the closure tests their marks
+pub count_marks : {R F : Type 0} (mark : R → Mark) (p : Mark → Bool) (rs : List R) (g : Mut F (Bor (Bor R) × Unit {0}) Bool) (s : TakeWhile (Iter R) F) (n : ℕ) {f : F}
+    → iter_rest (take_while_source s) ≡ rs → take_while_callee s ≡ f → take_while_done s ≡ false
+    → ((x : Bor R) (b : Bool) (f' : F) → CalledAt g f x b f' → (f' ≡ f) × (b ≡ p (mark x.now)))
+    → ((xs : List (Bor R)) × Drains (take_while_steps fronts g) s xs × (n ≡ length xs))
+    → n ≡ prefix_len p (map mark rs)
+count_marks mark p rs g s n source callee going one ran =
+    count_from_yields_List s n ran (YieldsList-from_take_while g (λ r. p (mark r)) (YieldsList-from_slice rs source) callee going one)
+    ∙ length-prefix_len (λ r. p (mark r)) rs
+    ∙ sym (prefix_len-map p mark rs)

@@ -1,8 +1,8 @@
 -- Places over marks, as a table of records answers them. Assumes nothing.
-use Rattle.std.specs.Prelude.{◌≡◌, ℕ, ◌+◌, ◌^◌, ◌<◌, ◌≤◌, List, length, take, slice_index, slice_index_or}
+use Rattle.std.specs.Prelude.{◌≡◌, ℕ, ◌+◌, ◌^◌, ◌<◌, ◌≤◌, List, [], ◌∷◌, length, take, slice_index, slice_index_or}
 use Rattle.places.specs.Maps.{first_of, last_of}
 use Rattle.places.specs.Pieces.{shown_text, spans_of, under_by}
-use Rattle.places.specs.Marks.{Mark, laid, Placed, shown_in, taken_in}
+use Rattle.places.specs.Marks.{Mark, past, laid, Placed, shown_in, taken_in}
 use Rattle.tables.specs.declared.placing.Held.{Held}
 use Rattle.tables.specs.declared.placing.Held.TheVariants.{Shown, Below}
 
@@ -17,6 +17,11 @@ first_over ms xs l = first_of (under_over ms xs) (length (text_over ms xs)) l
 
 abbrev pub last_over : List Mark → List ℕ → ℕ → ℕ
 last_over ms xs l = last_of (under_over ms xs) (length (text_over ms xs)) l
+
+-- the place behind what the last of some marks takes, or p where there are none
+abbrev pub end_of : ℕ → List Mark → ℕ
+end_of p [] = p
+end_of p (m ∷ ms) = end_of (past m) ms
 
 -- marks over a text, both texts short enough to count in 32 bits
 abbrev pub Counted : List Mark → List ℕ → Type 0

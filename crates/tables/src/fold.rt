@@ -8,7 +8,7 @@ use codes::code::PLACEHOLDER;
 use codes::sums::{Measured, running_sum};
 use places::change::Change;
 
-#[derive(Clone, Copy)]
+#[derive(Clone, Copy, Default)]
 pub struct Fold {
     start: u32,
     end: u32,
@@ -54,10 +54,10 @@ impl Record for Fold {
         let past = self.past();
         match *self {
             _ if past <= change.start => true,
-            Fold { start, end: _ } if change.start + change.old <= start => {
+            Fold { start, end: _ } if change.start.saturating_add(change.old) <= start => {
                 *self = Fold {
-                    start: start - change.old + change.new,
-                    end: past - change.old + change.new,
+                    start: (start - change.old).saturating_add(change.new),
+                    end: (past - change.old).saturating_add(change.new),
                 };
                 true
             }

@@ -3,42 +3,26 @@ ghost use Rattle.std.specs.Prelude.{◌≡◌, true, false, [], length, MatchOpt
 ghost use Rattle.tables.specs.Hints.{hint_mark, hintable};
 
 use crate::record::Record;
+use arrayvec::ArrayVec;
 use codes::sums::{Measured, running_sum};
 use places::change::Change;
 
-#[derive(Clone, Copy)]
+#[derive(Default, Drop)]
 pub struct Hint {
     at: u32,
-    len: u32,
-    codes: [u32; 16],
+    codes: ArrayVec<u32, 16>,
 }
 
 impl Hint {
-    // A hint that shows nothing, for cells where none is kept. Constant time.
-    pub fn blank() -> Hint
-        ensures { hint_mark result ≡ record { at = 0; takes = 0; shows = [] } }
-    {
-        Hint {
-            at: 0,
-            len: 0,
-            codes: [0; 16],
-        }
-    }
-
     // A hint at `at` that shows `w`; none where `w` has no code or more than 16. Constant time.
     pub fn new(at: u32, w: &[u32]) -> Option<Hint>
         ensures { MatchOption result (hintable w.now ≡ false) (λ h. (hintable w.now ≡ true) × (hint_mark h ≡ record { at = at; takes = 0; shows = w.now })) }
     {
-        if w.is_empty() || w.len() > 16 {
+        if w.is_empty() {
             return None;
         }
-        let mut codes = [0; 16];
-        codes[0..w.len()].copy_from_slice(w);
-        Some(Hint {
-            at,
-            len: w.len() as u32,
-            codes,
-        })
+        let codes = ArrayVec::try_from(w).ok()?;
+        Some(Hint { at, codes })
     }
 }
 
@@ -46,7 +30,7 @@ impl Measured for Hint {
     ghost size = { λ h. length (hint_mark h).shows };
 
     fn measure(&self) -> u32 {
-        self.len.min(16)
+        self.codes.len() as u32
     }
 }
 
@@ -72,8 +56,8 @@ impl Record for Hint {
     fn follow(&mut self, change: Change) -> bool {
         match self.at {
             at if at <= change.start => true,
-            at if change.start + change.old <= at => {
-                self.at = at - change.old + change.new;
+            at if change.start.saturating_add(change.old) <= at => {
+                self.at = (at - change.old).saturating_add(change.new);
                 true
             }
             _ => false,

@@ -1,8 +1,8 @@
 // Places of the text over a table of records, by running sums over the records.
-ghost use Rattle.std.specs.Prelude.{◌≡◌, ℕ, ◌+◌, ◌<◌, ◌≤◌, List, map, length, take, nat_le, slice_index_or};
-ghost use Rattle.places.specs.Marks.{Mark, past as past_of, shown_in, taken_in};
-ghost use Rattle.tables.specs.Tables.{marks_of};
-ghost use Rattle.tables.specs.Placing.{text_over, first_over, last_over, Counted, Begun, Holds};
+ghost use Rattle.std.specs.Prelude.{◌≡◌, ℕ, ◌+◌, ◌<◌, ◌≤◌, List, map, length, take, nat_le};
+ghost use Rattle.places.specs.Marks.{shown_in, taken_in};
+ghost use Rattle.tables.specs.Tables.{records_of, marks_of};
+ghost use Rattle.tables.specs.Placing.{text_over, first_over, last_over, end_of, Counted, Begun, Holds};
 
 use crate::record::Record;
 use crate::table::Table;
@@ -26,73 +26,86 @@ fn balance(base: u32, more: u64, less: u64) -> u32
     }
 }
 
-// The place behind what the last of the first `n` records takes, or 0 where there are none. Constant time.
-fn past_before<R: Record>(records: &[R], n: usize) -> u32
-    requires { n ≤ length records.now }
-    ensures none { n ≡ 0 → result ≡ 0 }
-    ensures some { (k : ℕ) (e : Mark) → k + 1 ≡ n → result ≡ past_of (slice_index_or (map R.Record.mark records.now) k e) }
+// The place behind what the last of `records` takes, or 0 where there are none. Constant time.
+fn end_of<R: Record>(records: &[R]) -> u32
+    ensures { result ≡ end_of 0 (map R.Record.mark records.now) }
 {
-    if n == 0 { 0 } else { records[n - 1].past() }
+    match records.last() {
+        Some(record) => record.past(),
+        None => 0,
+    }
+}
+
+// What the first records of a table come to: the place behind what the last of them takes, 0 where there are none, and
+// how many codes they show and take together.
+#[derive(Clone, Copy)]
+struct Passed {
+    past: u32,
+    shown: u64,
+    taken: u64,
+}
+
+impl Passed {
+    // The first `n` records of `table`, or all where there are fewer. One pass over them.
+    fn new<R: Record>(table: &Table<R>, n: usize) -> Passed
+        ensures past { result.past ≡ end_of 0 (take n (marks_of R.Record.mark table.now)) }
+        ensures shown { result.shown ≡ shown_in (take n (marks_of R.Record.mark table.now)) }
+        ensures taken { result.taken ≡ taken_in (take n (marks_of R.Record.mark table.now)) }
+    {
+        let records = table.records();
+        Passed {
+            past: end_of(&records[..n.min(records.len())]),
+            shown: R::shown_before(records, n),
+            taken: R::taken_before(records, n),
+        }
+    }
+
+    // Whether the next record, which stands at `place`, shows its codes from the place `u` above on or before it.
+    // Constant time.
+    fn begins_by(&self, place: u32, u: u32) -> bool
+        ensures { result ≡ nat_le (place + self.now.shown) (u + self.now.taken) }
+    {
+        u128::from(place) + u128::from(self.shown) <= u128::from(u) + u128::from(self.taken)
+    }
 }
 
 // The length of the text over one of `below` codes. One pass over the records.
 pub fn length_over<R: Record>(table: &Table<R>, below: u32) -> u32
     ensures { (xs : List ℕ) → length xs ≡ below → Counted (marks_of R.Record.mark table.now) xs → result ≡ length (text_over (marks_of R.Record.mark table.now) xs) }
 {
-    let records = table.records();
-    let shown = R::shown_before(records, records.len());
-    let taken = R::taken_before(records, records.len());
-    balance(below, shown, taken)
+    let all = Passed::new(table, table.len());
+    balance(below, all.shown, all.taken)
 }
 
 // The least place over the place `l` below. One pass over the records.
 pub fn first_over<R: Record>(table: &Table<R>, l: u32) -> u32
     ensures { (xs : List ℕ) → l ≤ length xs → Counted (marks_of R.Record.mark table.now) xs → result ≡ first_over (marks_of R.Record.mark table.now) xs l }
 {
-    let records = table.records();
-    let n = table.begun(l);
-    let past = past_before(records, n);
-    let shown = R::shown_before(records, n);
-    let taken = R::taken_before(records, n);
-    balance(past.max(l), shown, taken)
+    let passed = Passed::new(table, table.begun(l));
+    balance(passed.past.max(l), passed.shown, passed.taken)
 }
 
 // The greatest place over the place `l` below. One pass over the records.
 pub fn last_over<R: Record>(table: &Table<R>, l: u32) -> u32
     ensures { (xs : List ℕ) → l ≤ length xs → Counted (marks_of R.Record.mark table.now) xs → result ≡ last_over (marks_of R.Record.mark table.now) xs l }
 {
-    let records = table.records();
-    let n = table.reached(l);
-    let past = past_before(records, n);
-    let shown = R::shown_before(records, n);
-    let taken = R::taken_before(records, n);
-    if l < past {
-        balance(past, shown, taken.saturating_add(1))
+    let passed = Passed::new(table, table.reached(l));
+    if l < passed.past {
+        balance(passed.past, passed.shown, passed.taken.saturating_add(1))
     } else {
-        balance(l, shown, taken)
+        balance(l, passed.shown, passed.taken)
     }
 }
 
-// Whether a record at `place`, the next behind the first `n` of `records`, shows its codes from the place `u` above on
-// or before it. One pass over the records.
-fn begins_by<R: Record>(records: &[R], n: usize, place: u32, u: u32) -> bool
-    requires { length records.now ≤ 64 }
-    ensures { result ≡ nat_le (place + shown_in (map R.Record.mark (take n records.now))) (u + taken_in (map R.Record.mark (take n records.now))) }
+// How many records from the front on show their codes from the place `u` above on or before it. One pass over the records
+// for each of them at most.
+fn begun_above<R: Record>(table: &Table<R>, u: u32) -> usize
+    ensures few { result ≤ length (records_of table.now) }
+    ensures begun { Begun (marks_of R.Record.mark table.now) u result }
 {
-    let shown = R::shown_before(records, n);
-    let taken = R::taken_before(records, n);
-    u128::from(place) + u128::from(shown) <= u128::from(u) + u128::from(taken)
-}
-
-// How many of `records` from the front on show their codes from the place `u` above on or before it. One pass over the
-// records for each of them at most.
-fn begun_above<R: Record>(records: &[R], u: u32) -> usize
-    requires { length records.now ≤ 64 }
-    ensures few { result ≤ length records.now }
-    ensures begun { Begun (map R.Record.mark records.now) u result }
-{
+    let records = table.records();
     for (i, record) in records.iter().enumerate() {
-        if !begins_by(records, i, record.place(), u) {
+        if !Passed::new(table, i).begins_by(record.place(), u) {
             return i;
         }
     }
@@ -103,21 +116,17 @@ fn begun_above<R: Record>(records: &[R], u: u32) -> usize
 pub fn held_at<R: Record>(table: &Table<R>, u: u32) -> Held
     ensures { (xs : List ℕ) → u ≤ length (text_over (marks_of R.Record.mark table.now) xs) → Counted (marks_of R.Record.mark table.now) xs → Holds (marks_of R.Record.mark table.now) xs u result }
 {
-    let records = table.records();
-    let n = begun_above(records, u);
-    if n > 0 {
-        let index = n - 1;
-        let record = &records[index];
-        let shown = R::shown_before(records, index);
-        let taken = R::taken_before(records, index);
-        let offset = u.saturating_sub(balance(record.place(), shown, taken));
+    let n = begun_above(table, u);
+    if let Some(index) = n.checked_sub(1) {
+        let record = &table.records()[index];
+        let before = Passed::new(table, index);
+        let offset = u.saturating_sub(balance(record.place(), before.shown, before.taken));
         if offset < record.shown() {
             return Held::Shown { index, offset };
         }
     }
-    let shown = R::shown_before(records, n);
-    let taken = R::taken_before(records, n);
+    let passed = Passed::new(table, n);
     Held::Below {
-        place: balance(u, taken, shown),
+        place: balance(u, passed.taken, passed.shown),
     }
 }

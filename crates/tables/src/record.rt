@@ -5,7 +5,7 @@ ghost use Rattle.tables.specs.Records.{lives, sent, Room};
 
 use places::change::Change;
 
-pub trait Record: Copy {
+pub trait Record: Default + Drop {
     // what it means
     ghost mark: { Self → Mark };
 
@@ -28,9 +28,8 @@ pub trait Record: Copy {
 
     // Follows a change of the text below: false where it is dropped. Constant time.
     fn follow(&mut self, change: Change) -> bool
-        requires { Room change (mark self.old) }
-        ensures lives { result ≡ lives change (mark self.old) }
-        ensures sent { mark self.new ≡ sent change (mark self.old) };
+        ensures lives { Room change (mark self.old) → result ≡ lives change (mark self.old) }
+        ensures sent { Room change (mark self.old) → mark self.new ≡ sent change (mark self.old) };
 
     // How many codes the first `n` of `records` show together, and how many they take. One pass.
     fn shown_before(records: &[Self], n: usize) -> u64

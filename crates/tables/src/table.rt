@@ -1,47 +1,27 @@
 // Up to 64 records of one kind, in the order of their places.
-ghost use Rattle.std.specs.Prelude.{◌≡◌, ◌<◌, ◌≤◌, ◌&&◌, [], ◌∷◌, length, if◌then◌else◌, nat_le, nat_lt};
+ghost use Rattle.std.specs.Prelude.{◌≡◌, ◌≤◌, ◌&&◌, [], ◌∷◌, length, OnOk, IfErr, is_ok, OnSome, IfNone, is_some, slice_get, insert, remove, nat_le, nat_lt};
 ghost use Rattle.std.specs.List.{prefix_len, AllByRecursion};
 ghost use Rattle.places.specs.Marks.{past, followed};
 ghost use Rattle.tables.specs.Records.{Room};
-ghost use Rattle.tables.specs.Tables.{records_of, marks_of, inserted_at, removed_at, passes as passes_of};
+ghost use Rattle.tables.specs.Tables.{records_of, marks_of};
 
 use crate::record::Record;
+use arrayvec::ArrayVec;
 use places::change::Change;
 
-// The first `count` of the items are the records, all 64 where `count` is more, so that every value means a table.
+// The records, which lie in the table itself.
 #[derive(Drop)]
 pub struct Table<R> {
-    items: [R; 64],
-    count: usize,
-}
-
-// What a search asks of a record: that it ends at or before a place, begins before it, or begins at or before it.
-#[derive(Clone, Copy)]
-enum Search {
-    Ended,
-    Begun,
-    Reached,
-}
-
-// Whether `record` passes a search for `place`. Constant time.
-fn passes<R: Record>(record: &R, search: Search, place: u32) -> bool
-    ensures { result ≡ passes_of search place (R.Record.mark «record».now) }
-{
-    match search {
-        Search::Ended => record.past() <= place,
-        Search::Begun => record.place() < place,
-        Search::Reached => record.place() <= place,
-    }
+    items: ArrayVec<R, 64>,
 }
 
 impl<R: Record> Table<R> {
-    // A table with no records; `filler` stands where none is kept. Constant time.
-    pub fn new(filler: R) -> Table<R>
+    // A table with no records. Constant time.
+    pub fn new() -> Table<R>
         ensures { marks_of R.Record.mark result ≡ [] }
     {
         Table {
-            items: [filler; 64],
-            count: 0,
+            items: ArrayVec::new(),
         }
     }
 
@@ -50,8 +30,7 @@ impl<R: Record> Table<R> {
         ensures value { result.now ≡ records_of self.now }
         ensures few { length result.now ≤ 64 }
     {
-        let items = &self.items[..];
-        &items[..self.count.min(items.len())]
+        &self.items
     }
 
     // How many records are kept. Constant time.
@@ -59,45 +38,31 @@ impl<R: Record> Table<R> {
         ensures value { result ≡ length (records_of self.now) }
         ensures few { result ≤ 64 }
     {
-        self.records().len()
+        self.items.len()
     }
 
-    // Puts `record` before the one at `k`, or at the end; false, and nothing changed, where 64 are kept already or fewer
-    // than `k` are. Moves the records behind it.
-    pub fn insert(&mut self, k: usize, record: R) -> bool
-        ensures made { result ≡ (nat_lt (length (records_of self.old)) 64 && nat_le k (length (records_of self.old))) }
-        ensures records { records_of self.new ≡ (if result then inserted_at k «record» (records_of self.old) else records_of self.old) }
+    // Puts `record` before the one at `k`, or at the end. Handed back, and nothing changed, where 64 are kept already or
+    // fewer than `k` are. Moves the records behind it.
+    pub fn insert(&mut self, k: usize, record: R) -> Result<(), R>
+        ensures made { is_ok result ≡ (nat_lt (length (records_of self.old)) 64 && nat_le k (length (records_of self.old))) }
+        ensures ok { OnOk result (records_of self.new ≡ insert (records_of self.old) k «record») }
+        ensures err { IfErr result (λ refused. (refused ≡ «record») × (self.new ≡ self.old)) }
     {
-        let count = self.len();
-        if count == 64 || k > count {
-            return false;
+        if self.items.is_full() || k > self.items.len() {
+            return Err(record);
         }
-        let mut j = count;
-        while j > k {
-            let before = self.items[j - 1];
-            self.items[j] = before;
-            j -= 1;
-        }
-        self.items[k] = record;
-        self.count = count + 1;
-        true
+        self.items.insert(k, record);
+        Ok(())
     }
 
-    // Takes the record at `k` out; false, and nothing changed, where there is none. Moves the records behind it.
-    pub fn remove(&mut self, k: usize) -> bool
-        ensures made { result ≡ nat_lt k (length (records_of self.old)) }
-        ensures records { records_of self.new ≡ (if result then removed_at k (records_of self.old) else records_of self.old) }
+    // Takes the record at `k` out; nothing is changed where there is none. Moves the records behind it.
+    pub fn remove(&mut self, k: usize) -> Option<R>
+        ensures made { is_some result ≡ nat_lt k (length (records_of self.old)) }
+        ensures value { result ≡ slice_get (records_of self.old) k }
+        ensures some { OnSome result (records_of self.new ≡ remove (records_of self.old) k) }
+        ensures none { IfNone result (self.new ≡ self.old) }
     {
-        let count = self.len();
-        if k >= count {
-            return false;
-        }
-        for j in k + 1..count {
-            let behind = self.items[j];
-            self.items[j - 1] = behind;
-        }
-        self.count = count - 1;
-        true
+        self.items.pop_at(k)
     }
 
     // Lets every record follow a change of the text below, and drops those that do not live on. One pass.
@@ -106,50 +71,37 @@ impl<R: Record> Table<R> {
         ensures followed { marks_of R.Record.mark self.new ≡ followed change.start change.old change.new (marks_of R.Record.mark self.old) }
         ensures fewer { length (records_of self.new) ≤ length (records_of self.old) }
     {
-        let count = self.len();
-        let mut next = 0;
-        for i in 0..count {
-            if self.items[i].follow(change) {
-                let survivor = self.items[i];
-                self.items[next] = survivor;
-                next += 1;
-            }
-        }
-        self.count = next;
-    }
-
-    // How many records from the front on pass `search` for `place`. One pass.
-    fn front(&self, search: Search, place: u32) -> usize
-        ensures { result ≡ prefix_len (passes_of search place) (marks_of R.Record.mark self.now) }
-    {
-        let records = self.records();
-        for (i, record) in records.iter().enumerate() {
-            if !passes(record, search, place) {
-                return i;
-            }
-        }
-        records.len()
+        self.items.retain(|record| record.follow(change));
     }
 
     // How many records from the front on end at or before `place`. One pass.
     pub fn ended(&self, place: u32) -> usize
         ensures { result ≡ prefix_len (λ m. nat_le (past m) place) (marks_of R.Record.mark self.now) }
     {
-        self.front(Search::Ended, place)
+        self.items
+            .iter()
+            .take_while(|record| record.past() <= place)
+            .count()
     }
 
     // How many records from the front on begin before `place`. One pass.
     pub fn begun(&self, place: u32) -> usize
         ensures { result ≡ prefix_len (λ m. nat_lt m.at place) (marks_of R.Record.mark self.now) }
     {
-        self.front(Search::Begun, place)
+        self.items
+            .iter()
+            .take_while(|record| record.place() < place)
+            .count()
     }
 
     // How many records from the front on begin at or before `place`. One pass.
     pub fn reached(&self, place: u32) -> usize
         ensures { result ≡ prefix_len (λ m. nat_le m.at place) (marks_of R.Record.mark self.now) }
     {
-        self.front(Search::Reached, place)
+        self.items
+            .iter()
+            .take_while(|record| record.place() <= place)
+            .count()
     }
 }
 
@@ -174,10 +126,10 @@ mod tests {
     fn after<R: Record>(a: R, b: R, c: R, change: Change) -> Table<R>
         requires { AllByRecursion (λ x. Room change (R.Record.mark x)) (a ∷ b ∷ c ∷ []) }
     {
-        let mut table = Table::new(a);
-        table.insert(0, c);
-        table.insert(0, b);
-        table.insert(0, a);
+        let mut table = Table::new();
+        let _ = table.insert(0, c);
+        let _ = table.insert(0, b);
+        let _ = table.insert(0, a);
         table.follow(change);
         table
     }
@@ -222,22 +174,22 @@ mod tests {
 
     #[test]
     fn inserts_and_removes(rt: HostRuntime) {
-        let mut table = Table::new(Fold::new(0, 1));
-        assert!(rt; !table.remove(0));
-        assert!(rt; !table.insert(1, Fold::new(5, 6)));
-        assert!(rt; table.insert(0, Fold::new(5, 6)));
-        assert!(rt; table.insert(0, Fold::new(3, 4)));
-        assert!(rt; table.insert(2, Fold::new(7, 8)));
+        let mut table = Table::new();
+        assert!(rt; table.remove(0).is_none());
+        assert!(rt; table.insert(1, Fold::new(5, 6)).is_err());
+        assert!(rt; table.insert(0, Fold::new(5, 6)).is_ok());
+        assert!(rt; table.insert(0, Fold::new(3, 4)).is_ok());
+        assert!(rt; table.insert(2, Fold::new(7, 8)).is_ok());
         assert_eq!(rt; table.ended(6), 2);
         assert_eq!(rt; table.begun(5), 1);
         assert_eq!(rt; table.reached(5), 2);
-        assert!(rt; table.remove(0));
-        assert!(rt; table.remove(1));
+        assert!(rt; table.remove(0).is_some());
+        assert!(rt; table.remove(1).is_some());
         assert_eq!(rt; place(&table, 0), 5);
         for at in 1..64 {
-            assert!(rt; table.insert(1, Fold::new(at, at)));
+            assert!(rt; table.insert(1, Fold::new(at, at)).is_ok());
         }
-        assert!(rt; !table.insert(0, Fold::new(1, 2)));
+        assert!(rt; table.insert(0, Fold::new(1, 2)).is_err());
         assert_eq!(rt; table.len(), 64);
         assert_eq!(rt; place(&table, 63), 1);
     }

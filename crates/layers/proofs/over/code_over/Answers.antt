@@ -1,5 +1,4 @@
 use Rattle.std.proofs.Common.{◌<◌, length, get_or, sym, ap, ◌∙◌, subst, arith}
-use Rattle.std.proofs.lemmas.List.{get_or_past}
 use Rattle.places.specs.Marks.{Mark}
 use Rattle.view.specs.Seen.{text_at}
 use Rattle.tables.specs.Tables.{records_of}
@@ -27,8 +26,3 @@ returns-in-Shown g c =
     c.code.ensures
     ∙ ap (λ (m : Mark). get_or m.shows c.in-Shown.offset 0) (sym here)
     ∙ sym (held.1 (g.R.Record.mark c.index-records-index.result)).2
-
-pub returns-in-Err : goal.returns-in-Err
-returns-in-Err g c =
-    let held = c.in-Below.ensures (text_at g.V.View c.args.below.now) c.requires.within c.requires.counted in
-    sym (held.1 ∙ get_or_past (text_at g.V.View c.args.below.now) c.in-Below.place 0 c.in-Err.ensures.0)
