@@ -19,11 +19,7 @@ fn balance(base: u32, more: u64, less: u64) -> u32
     ensures { (n : ℕ) → n < 4294967296 → n + less ≡ base + more → result ≡ n }
 {
     let sum = (u128::from(base) + u128::from(more)).saturating_sub(u128::from(less));
-    if sum < 4_294_967_296 {
-        sum as u32
-    } else {
-        u32::MAX
-    }
+    u32::try_from(sum).unwrap_or(u32::MAX)
 }
 
 // The place behind what the last of `records` takes, or 0 where there are none. Constant time.

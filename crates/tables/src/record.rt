@@ -26,12 +26,14 @@ pub trait Record: Default + Drop {
         requires { i < length (mark self.now).shows }
         ensures { result ≡ slice_index (mark self.now).shows i };
 
-    // Follows a change of the text below: false where it is dropped. Constant time.
+    // Follows a change of the text below: false where it is dropped. Promised where no number passes 32 bits. Constant
+    // time.
     fn follow(&mut self, change: Change) -> bool
         ensures lives { Room change (mark self.old) → result ≡ lives change (mark self.old) }
         ensures sent { Room change (mark self.old) → mark self.new ≡ sent change (mark self.old) };
 
     // How many codes the first `n` of `records` show together, and how many they take. One pass.
+    // stays: `running_sum` takes one measure a record: of a hint what it shows, of a fold what it takes.
     fn shown_before(records: &[Self], n: usize) -> u64
         requires { length records.now ≤ 64 }
         ensures { result ≡ shown_in (map mark (take n records.now)) };

@@ -48,11 +48,12 @@ impl<R: Record> Table<R> {
         ensures ok { OnOk result (records_of self.new ≡ insert (records_of self.old) k «record») }
         ensures err { IfErr result (λ refused. (refused ≡ «record») × (self.new ≡ self.old)) }
     {
-        if self.items.is_full() || k > self.items.len() {
+        if k > self.len() {
             return Err(record);
         }
-        self.items.insert(k, record);
-        Ok(())
+        self.items
+            .try_insert(k, record)
+            .map_err(|full| full.element())
     }
 
     // Takes the record at `k` out; nothing is changed where there is none. Moves the records behind it.
