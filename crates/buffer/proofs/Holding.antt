@@ -1,6 +1,6 @@
 -- What cells with a gap hold, before an edit and after it. Assumes nothing.
 use Rattle.std.proofs.Common.{◌≡◌, ℕ, ◌+◌, ◌-◌, ◌≤◌, List, ◌++◌, length, take, drop, sym, ap, ◌∙◌, arith}
-use Rattle.std.proofs.lemmas.List.{drop_all, drop-drop, append-nil, append_assoc, length-append, length-take, length-drop}
+use Rattle.std.proofs.lemmas.List.{drop-drop, append_assoc, length-append, length-take, length-drop}
 use Rattle.buffer.specs.declared.gap.Gap.{Gap}
 use Rattle.buffer.specs.Documents.{edited}
 use Rattle.buffer.specs.Gaps.{ends, usable, front_of, back_of, held, free, Lies}
@@ -9,7 +9,7 @@ pub length-ends : (d : List ℕ) (f b : ℕ) → f + b ≤ length d → length (
 length-ends d f b h = simp (length-append, length-take, length-drop) (omega arith)
 
 -- numbers that are read as they are kept give the document
-module _ (most : ℕ) (d : List ℕ) (gap : Gap) (f b : ℕ) (front : f ≡ front_of most d gap) (back : b ≡ back_of most d gap) where
+module _ (most : ℕ) (d : List ℕ) (gap : Gap most) (f b : ℕ) (front : f ≡ front_of most d gap) (back : b ≡ back_of most d gap) where
   pub held_by : held most d gap ≡ ends d f b
   held_by = ap (λ (k : ℕ). ends d k (back_of most d gap)) (sym front) ∙ ap (λ (k : ℕ). ends d f k) (sym back)
 
@@ -52,7 +52,3 @@ module _ (x y d w : List ℕ) (a r z : ℕ) (inside : a + r ≤ length d) (spare
       ∙ ap (λ (m : ℕ). (take a d ++ w) ++ drop m y) k
       ∙ ap (λ (v : List ℕ). (take a d ++ w) ++ v) lies.1
       ∙ append_assoc (take a d) w (drop (a + r) d)
-
--- with no cell behind the gap the document is in front
-pub ends_front : (d : List ℕ) (n : ℕ) → ends d n 0 ≡ take n d
-ends_front d n = ap (λ (v : List ℕ). take n d ++ v) (drop_all (length d - 0) d (omega arith)) ∙ append-nil (take n d)

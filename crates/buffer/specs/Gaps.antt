@@ -16,21 +16,21 @@ usable most cells = min (length cells) most
 
 -- how many cells in front of the gap hold codes, and how many behind it: of the two numbers kept only what fits counts,
 -- so that every pair of numbers stands for a document
-abbrev pub front_of : ℕ → List ℕ → Gap → ℕ
+abbrev pub front_of : (most : ℕ) → List ℕ → Gap most → ℕ
 front_of most cells gap = min gap.front (usable most cells)
 
-abbrev pub back_of : ℕ → List ℕ → Gap → ℕ
+abbrev pub back_of : (most : ℕ) → List ℕ → Gap most → ℕ
 back_of most cells gap = min gap.back (usable most cells - front_of most cells gap)
 
 -- the document, and how many codes more the cells take
-abbrev pub held : ℕ → List ℕ → Gap → List ℕ
+abbrev pub held : (most : ℕ) → List ℕ → Gap most → List ℕ
 held most cells gap = ends cells (front_of most cells gap) (back_of most cells gap)
 
-abbrev pub free : ℕ → List ℕ → Gap → ℕ
+abbrev pub free : (most : ℕ) → List ℕ → Gap most → ℕ
 free most cells gap = usable most cells - front_of most cells gap - back_of most cells gap
 
 -- they fill no more of the cells than they may
-pub held_fits : (most : ℕ) (cells : List ℕ) (gap : Gap) → length (held most cells gap) + free most cells gap ≤ most
+pub held_fits : (most : ℕ) (cells : List ℕ) (gap : Gap most) → length (held most cells gap) + free most cells gap ≤ most
 held_fits most cells gap = simp (length-append, length-take, length-drop) (omega arith)
 
 -- how spare moves where cells hold the document: each code put in takes a cell, each taken out gives one back
@@ -44,7 +44,7 @@ Lies cells d a r w = (take (a + length w) cells ≡ take a d ++ w) × (drop (len
 
 -- the answer to an edit in cells, the gap after it: carried out, document and spare go by the rules and the cells hold
 -- what they should; refused, no cell changes
-abbrev pub EditsCells : ℕ → List ℕ → List ℕ → Gap → ℕ → ℕ → List ℕ → Result Gap BufferFault → Type 0
+abbrev pub EditsCells : (most : ℕ) → List ℕ → List ℕ → Gap most → ℕ → ℕ → List ℕ → Result (Gap most) BufferFault → Type 0
 EditsCells most cells cells' gap a r w x =
     MatchResult x
     (λ gap'. (edit_refusal (length (held most cells gap)) (free most cells gap) a r w ≡ None)

@@ -1,5 +1,5 @@
 -- What each fault of a buffer stands for, and which calls are refused with which. Assumes nothing.
-use Rattle.std.specs.Prelude.{ℕ, ◌-◌, cond, ◌&&◌, List, length, take, Some, None, Option, ◌==◌, nat_le, nat_lt}
+use Rattle.std.specs.Prelude.{◌≡◌, ℕ, ◌-◌, cond, ◌&&◌, List, length, take, Some, None, Option, Result, MatchResult, ◌==◌, nat_le, nat_lt}
 use Rattle.std.specs.List.{prefix_len}
 use Rattle.codes.specs.Codes.{is_document_code}
 use Rattle.buffer.specs.declared.fault.BufferFault.{BufferFault}
@@ -39,3 +39,7 @@ open_refusal most cells n =
     (codes_refusal (take n cells) None)
     (Some (told 1 n)))
     (Some (told 13 (length cells)))
+
+-- the answer of a check: passed where nothing is refused, else a fault that stands for the refusal
+abbrev pub Checks : Option Refusal → Result (Unit {0}) BufferFault → Type 0
+Checks refusal x = MatchResult x (λ _. refusal ≡ None) (λ f. refusal ≡ Some (refusal_of f))

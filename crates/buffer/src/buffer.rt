@@ -13,6 +13,7 @@ pub trait Buffer {
     const MOST: u32;
 
     // the two constants, as clauses name them
+    // stays: an impl with a lifetime, as that of the gap buffer, cannot give a ghost a constant's own name
     ghost letter: { ℕ };
 
     ghost most: { ℕ };

@@ -1,17 +1,19 @@
 // The fixed buffer: a document in 4,096 cells of its own, which needs no memory handed in.
-ghost use Rattle.std.specs.Prelude.{◌≡◌, ℕ, ◌≤◌, List, [], length};
+ghost use Rattle.std.specs.Prelude.{◌≡◌, [], length};
 ghost use Rattle.std.proofs.Common.{lit≤};
-ghost use Rattle.buffer.specs.Edits.{Edits};
-ghost use Rattle.buffer.specs.Gaps.{cells_left, held, free, held_fits, Lies};
+ghost use Rattle.buffer.specs.Gaps.{cells_left, held, free, held_fits};
 
 use crate::buffer::Buffer;
 use crate::fault::BufferFault;
 use crate::gap::Gap;
 
+// How many cells a fixed buffer has.
+const CELLS: u32 = 4_096;
+
 #[derive(Drop)]
 pub struct FixedBuffer {
-    cells: [u32; 4096],
-    gap: Gap,
+    cells: [u32; CELLS as usize],
+    gap: Gap<CELLS>,
 }
 
 impl FixedBuffer {
@@ -21,8 +23,8 @@ impl FixedBuffer {
         ensures spare { free 4096 result.cells result.gap ≡ 4096 }
     {
         FixedBuffer {
-            cells: [0; 4096],
-            gap: Gap { front: 0, back: 0 },
+            cells: [0; CELLS as usize],
+            gap: Gap::default(),
         }
     }
 }
@@ -30,7 +32,7 @@ impl FixedBuffer {
 impl Buffer for FixedBuffer {
     const LETTER: char = 'k';
 
-    const MOST: u32 = 4_096;
+    const MOST: u32 = CELLS;
 
     ghost letter = { 107 };
 
@@ -56,21 +58,22 @@ impl Buffer for FixedBuffer {
         Self::MOST
     }
 
+    // stays: four calls on `Gap`; a trait that lends the cells was tried, and the `&mut` it returns gets no proof
     fn len(&self) -> u32 {
-        self.gap.len(&self.cells, Self::MOST)
+        self.gap.len(&self.cells)
     }
 
     fn spare(&self) -> u32 {
-        self.gap.spare(&self.cells, Self::MOST)
+        self.gap.spare(&self.cells)
     }
 
     fn code(&self, i: u32) -> Result<u32, BufferFault> {
-        self.gap.code(&self.cells, Self::MOST, i)
+        self.gap.code(&self.cells, i)
     }
 
     // Costs the codes between the last edit and this one, and those of `w`.
     fn edit(&mut self, a: u32, r: u32, w: &[u32]) -> Result<(), BufferFault> {
-        self.gap = self.gap.edit(&mut self.cells, Self::MOST, a, r, w)?;
+        self.gap = self.gap.edit(&mut self.cells, a, r, w)?;
         Ok(())
     }
 }

@@ -1,50 +1,51 @@
 // A gap in cells: what every buffer does that keeps its document in cells, on both sides of a gap.
-ghost use Rattle.std.specs.Prelude.{◌≡◌, ℕ, ◌+◌, ◌-◌, ◌<◌, ◌≤◌, List, ◌++◌, length, take, drop};
+ghost use Rattle.std.specs.Prelude.{◌≡◌, ◌+◌, ◌-◌, ◌<◌, ◌≤◌, ◌++◌, length, take, drop};
 ghost use Rattle.buffer.specs.Edits.{CodeAt};
 ghost use Rattle.buffer.specs.Gaps.{ends, front_of, back_of, held, free, EditsCells};
 
-use crate::fault::{BufferFault, edit_fault};
+use crate::fault::{BufferFault, check_edit};
 
-// How many cells in front of the gap hold codes, from the first cell on, and how many behind it, up to the last.
-#[derive(Clone, Copy)]
-pub struct Gap {
+// How many cells in front of the gap hold codes, from the first cell on, and how many behind it, up to the last; in
+// all at most `MOST` of them.
+#[derive(Clone, Copy, Default)]
+pub struct Gap<const MOST: u32> {
     pub front: usize,
     pub back: usize,
 }
 
-impl Gap {
-    // The gap in `len` cells of which at most `most` are filled, of its two numbers only what fits; and how many
-    // codes more these cells take.
-    pub fn within(self, len: usize, most: u32) -> (Gap, usize)
-        ensures { (cells : List ℕ) → length cells ≡ len → (result.0.front ≡ front_of most cells self) × (result.0.back ≡ back_of most cells self) × (result.1 ≡ free most cells self) }
+impl<const MOST: u32> Gap<MOST> {
+    // The gap in these cells: of its two numbers only what fits.
+    fn within(self, cells: &[u32]) -> Gap<MOST>
+        ensures front { result.front ≡ front_of MOST cells.now self.entry }
+        ensures back { result.back ≡ back_of MOST cells.now self.entry }
     {
-        let usable = len.min(most as usize);
+        let usable = cells.len().min(MOST as usize);
         let front = self.front.min(usable);
         let back = self.back.min(usable - front);
-        (Gap { front, back }, usable - front - back)
+        Gap { front, back }
     }
 
     // The length of the document.
-    pub fn len(self, cells: &[u32], most: u32) -> u32
-        ensures { result ≡ length (held most cells.now self) }
+    pub fn len(self, cells: &[u32]) -> u32
+        ensures { result ≡ length (held MOST cells.now self.entry) }
     {
-        let (gap, _) = self.within(cells.len(), most);
+        let gap = self.within(cells);
         (gap.front + gap.back) as u32
     }
 
     // How many codes more the document takes.
-    pub fn spare(self, cells: &[u32], most: u32) -> u32
-        ensures { result ≡ free most cells.now self }
+    pub fn spare(self, cells: &[u32]) -> u32
+        ensures { result ≡ free MOST cells.now self.entry }
     {
-        let (_, free) = self.within(cells.len(), most);
-        free as u32
+        let gap = self.within(cells);
+        (cells.len().min(MOST as usize) - gap.front - gap.back) as u32
     }
 
     // The code at index `i` of the document.
-    pub fn code(self, cells: &[u32], most: u32, i: u32) -> Result<u32, BufferFault>
-        ensures { CodeAt (held most cells.now self) i result }
+    pub fn code(self, cells: &[u32], i: u32) -> Result<u32, BufferFault>
+        ensures { CodeAt (held MOST cells.now self.entry) i result }
     {
-        let (gap, _) = self.within(cells.len(), most);
+        let gap = self.within(cells);
         let index = i as usize;
         if index < gap.front {
             return Ok(cells[index]);
@@ -63,36 +64,32 @@ impl Gap {
     pub fn edit(
         self,
         cells: &mut [u32],
-        most: u32,
         a: u32,
         r: u32,
         w: &[u32],
-    ) -> Result<Gap, BufferFault>
+    ) -> Result<Gap<MOST>, BufferFault>
         ensures len { length cells.new ≡ length cells.old }
-        ensures does { EditsCells most cells.old cells.new self a r w.now result }
+        ensures does { EditsCells MOST cells.old cells.new self.entry a r w.now result }
     {
-        let (gap, free) = self.within(cells.len(), most);
-        let len = gap.front + gap.back;
-        if let Some(fault) = edit_fault(len as u32, free as u32, a, r, w) {
-            return Err(fault);
-        }
+        let len = self.len(cells);
+        check_edit(len, self.spare(cells), a, r, w)?;
         let start = a as usize;
         let past = start + r as usize;
-        open_gap(cells, gap, start, past);
+        open_gap(cells, self.within(cells), start, past);
         put(cells, start, w);
         Ok(Gap {
             front: start + w.len(),
-            back: len - past,
+            back: len as usize - past,
         })
     }
 }
 
 // Lets the gap reach from the code at `start` to the code at `past`: moves the codes between it and them.
-fn open_gap(cells: &mut [u32], gap: Gap, start: usize, past: usize)
+fn open_gap<const MOST: u32>(cells: &mut [u32], gap: Gap<MOST>, start: usize, past: usize)
     requires { (gap.front + gap.back ≤ length cells.old) × (start ≤ past) × (past ≤ gap.front + gap.back) }
     ensures len { length cells.new ≡ length cells.old }
-    ensures front { take start cells.new ≡ take start (ends cells.old gap.front gap.back) }
-    ensures back { drop (length cells.old - (gap.front + gap.back - past)) cells.new ≡ drop past (ends cells.old gap.front gap.back) }
+    ensures front { take start cells.new ≡ take start (ends cells.old gap.entry.front gap.entry.back) }
+    ensures back { drop (length cells.old - (gap.entry.front + gap.entry.back - past)) cells.new ≡ drop past (ends cells.old gap.entry.front gap.entry.back) }
 {
     let behind = cells.len() - gap.back;
     if gap.front < start {

@@ -1,8 +1,7 @@
 // The gap buffer: a document in handed cells, with a gap that stays where the last edit was.
-ghost use Rattle.std.specs.Prelude.{◌≡◌, ℕ, ◌≤◌, List, [], ◌∷◌, length, OnOk};
+ghost use Rattle.std.specs.Prelude.{◌≡◌, [], ◌∷◌, length, OnOk};
 ghost use Rattle.std.proofs.Common.{lit≤};
-ghost use Rattle.std.specs.Option.{option_map};
-ghost use Rattle.buffer.specs.Refusals.{refusal_of, open_refusal};
+ghost use Rattle.buffer.specs.Refusals.{open_refusal, Checks};
 ghost use Rattle.buffer.specs.Edits.{Edits};
 ghost use Rattle.buffer.specs.Gaps.{cells_left, held_fits, Lies};
 ghost use Rattle.buffer.specs.GapBuffers.{document_of, spare_in, Opens};
@@ -12,67 +11,67 @@ use crate::fault::BufferFault;
 use crate::gap::Gap;
 use codes::code::document_front;
 
+// The most cells that a gap buffer works in.
+const MOST_CELLS: u32 = 1_048_576;
+
 #[derive(Drop)]
 pub struct GapBuffer<'a> {
     cells: &'a mut [u32],
-    gap: Gap,
+    gap: Gap<MOST_CELLS>,
 }
 
-// What opening gives: a buffer, over no cells where it was refused, and why it was.
-#[derive(Drop)]
-pub struct Opened<'a> {
-    pub buffer: GapBuffer<'a>,
-    pub refused: Option<BufferFault>,
+impl<'a> GapBuffer<'a> {
+    // An empty document over no cells, which takes no code: for a host whose document was refused. Constant time.
+    pub fn new() -> GapBuffer<'a>
+        ensures doc { document_of result ≡ [] }
+        ensures spare { spare_in result ≡ 0 }
+        ensures cells { result.cells.now ≡ [] }
+        ensures gap { result.gap ≡ record { front = 0; back = 0 } }
+    {
+        GapBuffer {
+            cells: &mut [],
+            gap: Gap::default(),
+        }
+    }
 }
 
-// Why the first `n` of `cells` are not opened as a document: with 13 and their number where there are too many cells,
-// 1 and `n` where there are fewer than `n`, 3 and its index where one holds a code that no document holds.
+// Whether the first `n` of `cells` are opened as a document, or why not: with 13 and their number where there are too
+// many cells, 1 and `n` where there are fewer than `n`, 3 and its index where one holds a code that no document holds.
 // One pass over the document.
-pub fn open_fault(cells: &[u32], n: usize) -> Option<BufferFault>
-    ensures { option_map refusal_of result ≡ open_refusal 1048576 cells.now n }
+pub fn check_cells(cells: &[u32], n: usize) -> Result<(), BufferFault>
+    ensures { Checks (open_refusal 1048576 cells.now n) result }
 {
-    if cells.len() > <GapBuffer<'_> as Buffer>::MOST as usize {
-        return Some(BufferFault::TooManyCells {
+    if cells.len() > MOST_CELLS as usize {
+        return Err(BufferFault::TooManyCells {
             cells: cells.len() as u64,
         });
     }
     if n > cells.len() {
-        return Some(BufferFault::PastEnd { place: n as u64 });
+        return Err(BufferFault::PastEnd { place: n as u64 });
     }
-    let good = document_front(&cells[0..n]);
+    let good = document_front(&cells[..n]);
     if good < n {
-        return Some(BufferFault::BadCode { index: good as u64 });
+        return Err(BufferFault::BadCode { index: good as u64 });
     }
-    None
+    Ok(())
 }
 
-// Opens the first `n` of `cells` as a document, the rest as its spare; what `open_fault` refuses is refused, and the
-// buffer then works in no cells. One pass over the document; no cell is written.
-pub fn open<'a>(cells: &'a mut [u32], n: usize) -> Opened<'a>
+// Opens the first `n` of `cells` as a document, the rest as its spare; what `check_cells` refuses is refused. One pass
+// over the document; no cell is written.
+pub fn open<'a>(cells: &'a mut [u32], n: usize) -> Result<GapBuffer<'a>, BufferFault>
     ensures { Opens cells.entry n result }
 {
-    match open_fault(cells, n) {
-        Some(fault) => Opened {
-            buffer: GapBuffer {
-                cells: &mut [],
-                gap: Gap { front: 0, back: 0 },
-            },
-            refused: Some(fault),
-        },
-        None => Opened {
-            buffer: GapBuffer {
-                cells,
-                gap: Gap { front: n, back: 0 },
-            },
-            refused: None,
-        },
-    }
+    check_cells(cells, n)?;
+    Ok(GapBuffer {
+        cells,
+        gap: Gap { front: n, back: 0 },
+    })
 }
 
 impl<'a> Buffer for GapBuffer<'a> {
     const LETTER: char = 'g';
 
-    const MOST: u32 = 1_048_576;
+    const MOST: u32 = MOST_CELLS;
 
     ghost letter = { 103 };
 
@@ -102,16 +101,17 @@ impl<'a> Buffer for GapBuffer<'a> {
         Self::MOST
     }
 
+    // stays: four calls on `Gap`; a trait that lends the cells was tried, and the `&mut` it returns gets no proof
     fn len(&self) -> u32 {
-        self.gap.len(self.cells, Self::MOST)
+        self.gap.len(self.cells)
     }
 
     fn spare(&self) -> u32 {
-        self.gap.spare(self.cells, Self::MOST)
+        self.gap.spare(self.cells)
     }
 
     fn code(&self, i: u32) -> Result<u32, BufferFault> {
-        self.gap.code(self.cells, Self::MOST, i)
+        self.gap.code(self.cells, i)
     }
 
     // Costs the codes between the last edit and this one, and those of `w`.
@@ -121,7 +121,7 @@ impl<'a> Buffer for GapBuffer<'a> {
         ensures len { length self.new.cells.now ≡ length self.old.cells.now }
         ensures cells { OnOk result (Lies self.new.cells.now (document_of self.old) a r w.now) }
     {
-        self.gap = self.gap.edit(self.cells, Self::MOST, a, r, w)?;
+        self.gap = self.gap.edit(self.cells, a, r, w)?;
         Ok(())
     }
 }

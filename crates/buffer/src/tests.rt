@@ -2,7 +2,7 @@
 use crate::buffer::Buffer;
 use crate::fault::{BufferFault, Refusal};
 use crate::fixed_buffer::FixedBuffer;
-use crate::gap_buffer::open;
+use crate::gap_buffer::{GapBuffer, open};
 use std::process::Abort;
 use std::test::Fail;
 
@@ -51,29 +51,20 @@ fn told(cause: u8, spot: u64) -> Option<Refusal> {
 }
 
 fn answer(x: Result<(), BufferFault>) -> Option<Refusal> {
-    match x {
-        Ok(()) => None,
-        Err(fault) => Some(fault.refusal()),
-    }
+    x.err().map(Refusal::from)
 }
 
 fn check_document<B: Buffer>(rt: &impl Abort, buffer: &B, codes: &[u32]) -> Result<(), Fail> {
     assert_eq!(rt; buffer.len() as usize, codes.len());
-    let mut i = 0;
-    for code in codes {
-        match buffer.code(i) {
-            Ok(found) => assert_eq!(rt; found, *code),
-            Err(_) => return Err(Fail::new("a code of the document")),
-        }
-        i = u32::saturating_add(i, 1);
+    for (i, code) in (0..).zip(codes) {
+        assert_eq!(rt; buffer.code(i), Ok(*code));
     }
-    match buffer.code(i) {
-        Ok(_) => Err(Fail::new("a code past the end")),
-        Err(fault) => {
-            assert_eq!(rt; Some(fault.refusal()), told(1, u64::from(i)));
-            Ok(())
-        },
-    }
+    let len = buffer.len();
+    assert_eq!(rt;
+        buffer.code(len).err().map(Refusal::from),
+        told(1, u64::from(len))
+    );
+    Ok(())
 }
 
 fn play<B: Buffer>(rt: &impl Abort, buffer: &mut B, steps: &[Step]) -> Result<(), Fail> {
@@ -115,9 +106,7 @@ fn edits(rt: HostRuntime) -> Result<(), Fail> {
         taken(0, 0, &[1_114_111], &[1_114_111]),
     ];
     let mut cells = [0; 16];
-    let opened = open(&mut cells, 0);
-    assert!(rt; opened.refused.is_none());
-    let mut gap = opened.buffer;
+    let mut gap = open(&mut cells, 0)?;
     play(&rt, &mut gap, &steps)?;
     let mut fixed = FixedBuffer::new();
     play(&rt, &mut fixed, &steps)
@@ -134,7 +123,7 @@ fn full(rt: HostRuntime) -> Result<(), Fail> {
         taken(3, 0, &[122], &[120, 121, 98, 122]),
     ];
     let mut cells = [97, 98, 0, 0];
-    let mut gap = open(&mut cells, 2).buffer;
+    let mut gap = open(&mut cells, 2)?;
     play(&rt, &mut gap, &steps)?;
     let mut fixed = FixedBuffer::new();
     assert_eq!(rt; answer(fixed.edit(0, 0, &[97; 4097])), told(4, 4096));
@@ -148,24 +137,30 @@ fn full(rt: HostRuntime) -> Result<(), Fail> {
 #[test]
 fn openings(rt: HostRuntime) -> Result<(), Fail> {
     let mut many = vec![in rt.alloc(); 7; 1_048_577]?;
-    let opened = open(many.as_mut_slice(), 1_048_578);
-    assert_eq!(rt; opened.buffer.len(), 0);
-    assert_eq!(rt; opened.buffer.spare(), 0);
-    let Some(fault) = opened.refused else {
-        return Err(Fail::new("too many cells"));
-    };
-    assert_eq!(rt; Some(fault.refusal()), told(13, 1_048_577));
+    assert_eq!(rt;
+        open(many.as_mut_slice(), 1_048_578)
+            .err()
+            .map(Refusal::from),
+        told(13, 1_048_577)
+    );
+    let none = GapBuffer::new();
+    assert_eq!(rt; none.len(), 0);
+    assert_eq!(rt; none.spare(), 0);
     let mut cells = [97, 8, 98];
-    match open(&mut cells, 4).refused {
-        Some(fault) => assert_eq!(rt; Some(fault.refusal()), told(1, 4)),
-        None => return Err(Fail::new("past the end")),
-    }
-    match open(&mut cells, 3).refused {
-        Some(fault) => assert_eq!(rt; Some(fault.refusal()), told(3, 1)),
-        None => return Err(Fail::new("a bad code")),
-    }
-    let opened = open(&mut cells, 1);
-    assert!(rt; opened.refused.is_none());
-    assert_eq!(rt; opened.buffer.spare(), 2);
-    check_document(&rt, &opened.buffer, &[97])
+    assert_eq!(rt; open(&mut cells, 4).err().map(Refusal::from), told(1, 4));
+    assert_eq!(rt; open(&mut cells, 3).err().map(Refusal::from), told(3, 1));
+    let opened = open(&mut cells, 1)?;
+    assert_eq!(rt; opened.spare(), 2);
+    check_document(&rt, &opened, &[97])
+}
+
+#[test]
+fn texts(rt: HostRuntime) -> Result<(), Fail> {
+    let fault = BufferFault::NoSpare { spare: 2 };
+    let text = format!(in rt.alloc(); "{fault}")?;
+    assert_eq!(rt; text.as_str(), "more codes than the spare of 2");
+    let refusal = Refusal::from(fault);
+    let text = format!(in rt.alloc(); "{refusal}")?;
+    assert_eq!(rt; text.as_str(), "number 4, layer 0, spot 2");
+    Ok(())
 }

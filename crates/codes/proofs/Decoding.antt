@@ -1,28 +1,20 @@
 -- How a code is read byte by byte, and what the answers of `decoded` tell. Assumes nothing.
-use Rattle.std.proofs.Common.{◌≡◌, ℕ, zero, suc, ◌+◌, ◌-◌, ◌*◌, ◌<◌, ◌≤◌, true, false, ◌⊎◌, List, [], ◌∷◌, ◌++◌, length, get_or, take, drop, sym, refl, ap, ◌∙◌, add-one, arith}
+use Rattle.std.proofs.Common.{◌≡◌, ℕ, zero, suc, ◌+◌, ◌-◌, ◌*◌, ◌<◌, ◌≤◌, true, List, [], ◌∷◌, ◌++◌, length, take, drop, sym, refl, ap, ◌∙◌, add-one, Result, Err, arith}
 use lib.Utf8.{scalar, encode}
 use Rattle.std.proofs.lemmas.Bool.Decides.{nat_tests}
 use Rattle.std.proofs.lemmas.Bool.{cond_both, cond-true, cond-false}
 use Rattle.std.proofs.lemmas.List.{append-nil, append_assoc, take_at, take-append-drop, length-append}
+use Rattle.std.proofs.Math.Seq.{take-append-add}
 use Rattle.codes.specs.Codes.{within}
 use Rattle.codes.specs.Utf8.{decoded, is_lead, tail_count, lead_bits, tail_low, tail_high, tail_of, Begins, Tells}
-use Rattle.codes.proofs.Encoding.{encode_1, tail_next, reads_written, Spells, lead_spells}
+use Rattle.codes.proofs.Encoding.{code_read, encode_1, reads_written, Spells, lead_spells}
 use Rattle.codes.specs.declared.utf8.Decoded.{Decoded}
-use Rattle.codes.specs.declared.utf8.Decoded.TheVariants.{Code, Bad, Cut}
+use Rattle.codes.specs.declared.utf8.DecodeFault.{DecodeFault}
+use Rattle.codes.specs.declared.utf8.DecodeFault.TheVariants.{Bad}
 
--- a turn of the loop: the bytes are at their end, the byte is bad, or it adds to the code
-pub tail_cut : (n low high bits i : ℕ) → 0 < n → Cut ≡ tail_of n low high bits i []
-tail_cut zero low high bits i h = absurd (omega arith)
-tail_cut (suc n) low high bits i h = refl
-
-pub tail_bad : (n low high bits i b : ℕ) (bs : List ℕ) → 0 < n → (b < low) ⊎ (high < b) → Bad i ≡ tail_of n low high bits i (b ∷ bs)
-tail_bad zero low high bits i b bs h o = absurd (omega arith)
-tail_bad (suc n) low high bits i b bs h o = let w : within low high b ≡ false = grind (arith, nat_tests) in rw w
-
-pub tail_more : (n low high bits i b : ℕ) (bs : List ℕ) → 0 < n → low ≤ b → b ≤ high → tail_of n low high bits i (b ∷ bs) ≡ tail_of (n - 1) 128 191 (bits * 64 + (b - 128)) (i + 1) bs
-tail_more zero low high bits i b bs z l h = absurd (omega arith)
-tail_more (suc n) low high bits i b bs z l h =
-    let m : suc n - 1 ≡ n = omega arith in rw (m, add-one) (tail_next n low high bits i b bs l h)
+-- a byte more adds to the code
+pub tail_more : (m n low high bits i b : ℕ) (bs more : List ℕ) → (bs ≡ b ∷ more) × (m + 1 ≡ n) → within low high b ≡ true → tail_of n low high bits i bs ≡ tail_of m 128 191 (bits * 64 + (b - 128)) (i + 1) more
+tail_more m n low high bits i b bs more taken w = rw (taken.0, ← taken.1, add-one m, add-one i, w)
 
 -- where any allowed bytes complete `front`, the lowest ones do
 completes : (n low high bits : ℕ) (front : List ℕ) → low ≤ high → Spells n low high bits front → (c : ℕ) × (more : List ℕ) × ((scalar c ≡ true) × (front ++ more ≡ encode c) × (length more ≡ n))
@@ -39,23 +31,21 @@ begins n low high bits front h s =
 
 -- the first bytes with the one behind them
 take_past : (i b : ℕ) (front bs : List ℕ) → length front ≡ i → take (suc i) (front ++ b ∷ bs) ≡ front ++ b ∷ []
-take_past i b front bs h =
-    let long : length (front ++ b ∷ []) ≡ suc i = omega (arith, length-append front (b ∷ [])) in
-    ap (take (suc i)) (sym (append_assoc front (b ∷ []) bs)) ∙ take_at (front ++ b ∷ []) bs (suc i) long
+take_past i b front bs h = rw (← h, ← add-one) (take-append-add front (b ∷ bs) 1)
 
 -- where `front` and then b are read as bad, whatever follows, no code begins with them: it would be read
-no_code : (i b : ℕ) (front bs : List ℕ) → length front ≡ i → ((more : List ℕ) → decoded (front ++ b ∷ more) ≡ Bad i) → (c : ℕ) (rest : List ℕ) → scalar c ≡ true → take (suc i) (encode c ++ rest) ≡ take (suc i) (front ++ b ∷ bs) → ⊥
+no_code : (i b : ℕ) (front bs : List ℕ) → length front ≡ i → ((more : List ℕ) → decoded (front ++ b ∷ more) ≡ Err (Bad i)) → (c : ℕ) (rest : List ℕ) → scalar c ≡ true → take (suc i) (encode c ++ rest) ≡ take (suc i) (front ++ b ∷ bs) → ⊥
 no_code i b front bs h bad c rest s e =
     let text : List ℕ = encode c ++ rest in
     let more : List ℕ = drop (suc i) text in
     let parts : text ≡ front ++ b ∷ more =
     sym (take-append-drop (suc i) text) ∙ ap (λ x. x ++ more) (e ∙ take_past i b front bs h) ∙ append_assoc front (b ∷ []) more in
-    let read : Code c (length (encode c)) ≡ Bad i = sym (reads_written c rest s) ∙ ap decoded parts ∙ bad more in
+    let read : code_read c (length (encode c)) ≡ Err (Bad i) = sym (reads_written c rest s) ∙ ap decoded parts ∙ bad more in
     let z : ◌≡◌ {A = ℕ} 0 1 = cc in
     omega arith
 
 -- a byte that is bad whatever follows, behind bytes that begin a code, is the first bad one
-bad_tells : (i b : ℕ) (front bs : List ℕ) → length front ≡ i → Begins front → ((more : List ℕ) → decoded (front ++ b ∷ more) ≡ Bad i) → Tells (front ++ b ∷ bs) (Bad i)
+bad_tells : (i b : ℕ) (front bs : List ℕ) → length front ≡ i → Begins front → ((more : List ℕ) → decoded (front ++ b ∷ more) ≡ Err (Bad i)) → Tells (front ++ b ∷ bs) (Err (Bad i))
 bad_tells i b front bs h s bad =
     (omega (arith, length-append front (b ∷ bs)), rw (take_at front (b ∷ bs) i h) s, no_code i b front bs h bad)
 
@@ -66,7 +56,7 @@ tail_tells zero low high bits i front bs h p o d s =
 tail_tells (suc n) low high bits i front [] h p o d s =
     rw append-nil (omega arith, begins n low high bits front o s)
 tail_tells (suc n) low high bits i front (b ∷ bs) h p o d s =
-    cond_both (within low high b) (tail_of n 128 191 (bits * 64 + (b - 128)) (suc i) bs) (Bad i) (Tells (front ++ b ∷ bs))
+    cond_both (within low high b) (tail_of n 128 191 (bits * 64 + (b - 128)) (suc i) bs) (Err (Bad i)) (Tells (front ++ b ∷ bs))
     (λ w.
     let l : low ≤ b = grind (arith, nat_tests) in
     let u : b ≤ high = grind (arith, nat_tests) in
@@ -81,20 +71,10 @@ tail_tells (suc n) low high bits i front (b ∷ bs) h p o d s =
 pub decoded_tells : (bs : List ℕ) → Tells bs (decoded bs)
 decoded_tells [] = refl
 decoded_tells (b ∷ bs) =
-    cond_both (is_lead b) (tail_of (tail_count b) (tail_low b) (tail_high b) (lead_bits b) 1 bs) (Bad 0) (Tells (b ∷ bs))
+    cond_both (is_lead b) (tail_of (tail_count b) (tail_low b) (tail_high b) (lead_bits b) 1 bs) (Err (Bad 0)) (Tells (b ∷ bs))
     (λ l. tail_tells (tail_count b) (tail_low b) (tail_high b) (lead_bits b) 1 (b ∷ []) bs refl (omega arith) (grind (arith, nat_tests)) (λ ds. cond-true (is_lead b) _ _ l) (lead_spells b l))
     (λ l. bad_tells 0 b [] bs refl (0, 0 ∷ [], (refl, sym (encode_1 0 (omega arith)), omega arith)) (λ more. cond-false (is_lead b) _ _ l))
 
 -- an answer that is what the bytes are read as tells the truth of them
-pub tells_of : (bs : List ℕ) (r : Decoded) → r ≡ decoded bs → Tells bs r
+pub tells_of : (bs : List ℕ) (r : Result Decoded DecodeFault) → r ≡ decoded bs → Tells bs r
 tells_of bs r e = rw e (decoded_tells bs)
-
--- what a lead and the bytes behind it give is what all of them are read as
-pub read_lead : (bs : List ℕ) (r : Decoded) (count low high bits : ℕ) → 0 < length bs → is_lead (get_or bs 0 0) ≡ true → bits ≡ lead_bits (get_or bs 0 0) → count ≡ tail_count (get_or bs 0 0) → low ≡ tail_low (get_or bs 0 0) → high ≡ tail_high (get_or bs 0 0) → r ≡ tail_of count low high bits 1 (drop 1 bs) → r ≡ decoded bs
-read_lead [] r count low high bits z l b n o h e = absurd (omega arith)
-read_lead (x ∷ bs) r count low high bits z l b n o h e = rw (l, ← b, ← n, ← o, ← h) e
-
--- a first byte that is no lead is bad
-pub read_bad : (bs : List ℕ) → 0 < length bs → is_lead (get_or bs 0 0) ≡ false → Bad 0 ≡ decoded bs
-read_bad [] z l = absurd (omega arith)
-read_bad (x ∷ bs) z l = rw l

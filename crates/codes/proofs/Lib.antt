@@ -1,8 +1,6 @@
 mod Decoding
 mod Encoding
-mod Fronts
 mod Least
 mod Reading
 mod Running
 pub mod Stretches
-mod Writing

@@ -1,10 +1,11 @@
 -- What is said of a text that is read into codes, and of codes that are written as a text. Assumes nothing.
-use Rattle.std.specs.Prelude.{◌≡◌, ℕ, ◌+◌, ◌<◌, true, List, ◌++◌, length}
+use Rattle.std.specs.Prelude.{◌≡◌, ℕ, ◌+◌, ◌<◌, true, List, ◌++◌, length, Result, Ok, Err}
 use Rattle.std.proofs.Math.Utf8.{scalar, scalars, encodes}
 use Rattle.std.specs.List.{prefix_len}
 use Rattle.codes.specs.Utf8.{decoded}
 use Rattle.codes.specs.declared.utf8.Decoded.{Decoded}
-use Rattle.codes.specs.declared.utf8.Decoded.TheVariants.{Code, Bad, Cut, End}
+use Rattle.codes.specs.declared.utf8.DecodeFault.{DecodeFault}
+use Rattle.codes.specs.declared.utf8.DecodeFault.TheVariants.{Bad, Cut, End}
 use Rattle.codes.specs.declared.text.TextFault.{TextFault}
 use Rattle.codes.specs.declared.text.TextFault.TheVariants as fault
 
@@ -13,11 +14,11 @@ abbrev pub ReadAs : List ℕ → List ℕ → Type 0
 ReadAs bs cs = (scalars cs ≡ true) × (encodes cs ≡ bs) × ((other : List ℕ) → encodes other ≡ bs → other ≡ cs)
 
 -- where reading stops in n bytes, when it comes to `start` and finds no code there
-abbrev pub StopsAt : ℕ → ℕ → Decoded → ℕ → Type 0
-StopsAt start n (Code c k) at = ⊥
-StopsAt start n (Bad k) at = at ≡ start + k
-StopsAt start n Cut at = at ≡ n
-StopsAt start n End at = ⊥
+abbrev pub StopsAt : ℕ → ℕ → Result Decoded DecodeFault → ℕ → Type 0
+StopsAt start n (Ok d) at = ⊥
+StopsAt start n (Err (Bad k)) at = at ≡ start + k
+StopsAt start n (Err Cut) at = at ≡ n
+StopsAt start n (Err End) at = ⊥
 
 -- a front of the bytes is a text, and what follows it begins with no code: `at` is the first byte that no text has
 -- there, or the number of the bytes where they end inside a code

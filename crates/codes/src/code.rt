@@ -48,12 +48,10 @@ pub fn is_row_end(code: u32) -> bool
 pub fn document_front(codes: &[u32]) -> usize
     ensures { result ≡ prefix_len is_document_code codes.now }
 {
-    for (i, code) in codes.iter().enumerate() {
-        if !is_document_code(*code) {
-            return i;
-        }
-    }
-    codes.len()
+    codes
+        .iter()
+        .take_while(|code| is_document_code(**code))
+        .count()
 }
 
 #[cfg(test)]

@@ -23,9 +23,8 @@ pub fn running_sum<R: Measured>(records: &[R], n: usize) -> u128
     ensures value { result ≡ running_sum R.Measured.size records.now n }
     ensures bound { result ≤ 4294967295 * length records.now }
 {
-    let front = &records[0..n.min(records.len())];
     let mut sum = 0u128;
-    for record in front {
+    for record in records.iter().take(n) {
         sum += u128::from(record.measure());
     }
     sum

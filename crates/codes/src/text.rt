@@ -4,14 +4,17 @@ ghost use Rattle.std.proofs.Math.Utf8.{scalars, encodes};
 ghost use Rattle.codes.specs.Texts.{ReadAs, Unread, Unwritten};
 ghost use Rattle.codes.specs.declared.text.TextFault.TheVariants.{NoMemory};
 
-use crate::utf8::{Decoded, decode};
+use crate::utf8::{DecodeFault, Decoded, decode};
 use std::alloc::{AllocError, AllocFailed, Global};
+use thiserror::Error;
 
 // Why a text is not turned: all that can stand in the way.
-#[derive(Clone, Copy, PartialEq, Eq, Debug)]
+#[derive(Clone, Copy, PartialEq, Eq, Debug, Error)]
 pub enum TextFault {
     // the index of the first byte that no text has there, or of the first number that is no code of Unicode
+    #[error("the text is wrong or cut off at index {at}")]
     Bad { at: usize },
+    #[error("out of memory")]
     NoMemory,
 }
 
@@ -23,10 +26,10 @@ impl From<AllocError> for TextFault {
     }
 }
 
-impl From<AllocFailed<u32>> for TextFault {
+impl<T: Drop> From<AllocFailed<T>> for TextFault {
     ghost from_gives = { λ _ fault. fault ≡ NoMemory };
 
-    fn from(_refused: AllocFailed<u32>) -> TextFault {
+    fn from(_refused: AllocFailed<T>) -> TextFault {
         TextFault::NoMemory
     }
 }
@@ -37,18 +40,22 @@ pub fn decode_text(heap: Global, bytes: &[u8]) -> Result<Vec<u32>, TextFault>
     ensures { MatchResult result (λ codes. ReadAs bytes.now codes.items) (Unread bytes.now) }
 {
     let mut codes = Vec::new(heap);
-    let mut at = 0;
-    while at < bytes.len() {
-        match decode(&bytes[at..]) {
-            Decoded::Code { code, len } => {
+    let mut rest = bytes;
+    loop {
+        match decode(rest) {
+            Ok(Decoded { code, len }) => {
                 codes.push(code)?;
-                at += len;
+                rest = &rest[len..];
             }
-            Decoded::Bad { at: bad } => return Err(TextFault::Bad { at: at + bad }),
-            Decoded::Cut | Decoded::End => return Err(TextFault::Bad { at: bytes.len() }),
+            Err(DecodeFault::Bad { at }) => {
+                return Err(TextFault::Bad {
+                    at: bytes.len() - rest.len() + at,
+                });
+            }
+            Err(DecodeFault::Cut) => return Err(TextFault::Bad { at: bytes.len() }),
+            Err(DecodeFault::End) => return Ok(codes),
         }
     }
-    Ok(codes)
 }
 
 // The bytes of `codes` as a text; or the index of the first number that is no code of Unicode. One pass.
@@ -57,10 +64,8 @@ pub fn encode_text(heap: Global, codes: &[u32]) -> Result<String, TextFault>
 {
     let mut text = String::new(heap);
     for (at, code) in codes.iter().enumerate() {
-        match char::from_u32(*code) {
-            Some(letter) => text.push(letter)?,
-            None => return Err(TextFault::Bad { at }),
-        }
+        let letter = char::from_u32(*code).ok_or(TextFault::Bad { at })?;
+        text.push(letter)?;
     }
     Ok(text)
 }

@@ -1,18 +1,27 @@
 // UTF-8 as RFC 3629 has it, code by code, both ways.
-ghost use Rattle.std.specs.Prelude.{◌≡◌, ℕ, ◌≤◌, true, false, List, ◌++◌, length, take, IfSome, MatchOption};
+ghost use Rattle.std.specs.Prelude.{◌≡◌, ℕ, ◌≤◌, true, false, List, ◌++◌, length, IfSome, MatchOption};
 ghost use Rattle.std.proofs.Math.Utf8.{scalar as is_scalar, encode as bytes_of};
 ghost use Rattle.codes.specs.Utf8.{decoded, Tells, is_lead, lead_bits, tail_count, tail_low, tail_high, tail_of};
 
-// What stands at the front of some bytes.
+use std::marker::Model;
+use thiserror::Error;
+
+// A code that bytes begin with, and the number of its bytes.
 #[derive(Clone, Copy, PartialEq, Eq, Debug)]
-pub enum Decoded {
-    // a code, and the number of its bytes
-    Code { code: u32, len: usize },
+pub struct Decoded {
+    pub code: u32,
+    pub len: usize,
+}
+
+// Why bytes begin with no code.
+#[derive(Clone, Copy, PartialEq, Eq, Debug, Error)]
+pub enum DecodeFault {
     // the index of the first byte that no text has there
+    #[error("no text has the byte at index {at} there")]
     Bad { at: usize },
-    // the bytes end inside a code
+    #[error("the bytes end inside a code")]
     Cut,
-    // there are no bytes
+    #[error("there are no bytes")]
     End,
 }
 
@@ -23,6 +32,10 @@ struct Lead {
     count: usize,
     low: u8,
     high: u8,
+    ghost small: { bits ≤ 127 },
+    ghost few: { count ≤ 3 },
+    ghost above: { 128 ≤ low },
+    ghost below: { high ≤ 191 },
 }
 
 // The lead that `byte` is, if a code can begin with it.
@@ -49,43 +62,39 @@ fn lead_of(byte: u8) -> Option<Lead>
 }
 
 // The code that `lead` and the bytes behind it make.
-fn tail(lead: Lead, bytes: &[u8]) -> Decoded
-    requires { (lead.bits ≤ 127) × (lead.count ≤ 3) × (128 ≤ lead.low) × (lead.high ≤ 191) }
+fn tail(lead: Lead, bytes: &[u8]) -> Result<Decoded, DecodeFault>
     ensures { result ≡ tail_of lead.count lead.low lead.high lead.bits 1 bytes.now }
 {
     let mut code = lead.bits;
-    let mut low = lead.low;
-    let mut high = lead.high;
-    for i in 0..lead.count {
-        if i >= bytes.len() {
-            return Decoded::Cut;
+    let mut allowed = lead.low..=lead.high;
+    for (i, byte) in bytes.iter().take(lead.count).enumerate() {
+        if !allowed.contains(byte) {
+            return Err(DecodeFault::Bad { at: i + 1 });
         }
-        let byte = bytes[i];
-        if byte < low || byte > high {
-            return Decoded::Bad { at: i + 1 };
-        }
-        code = code * 64 + u32::from(byte - 0x80);
-        low = 0x80;
-        high = 0xbf;
+        code = code * 64 + u32::from(*byte - 0x80);
+        allowed = 0x80..=0xbf;
     }
-    Decoded::Code {
+    if bytes.len() < lead.count {
+        return Err(DecodeFault::Cut);
+    }
+    Ok(Decoded {
         code,
         len: lead.count + 1,
-    }
+    })
 }
 
 // The code at the front of `bytes` with its length; or the first byte that no text has there, or that the bytes end
 // inside a code, or that there are none. Constant time.
-pub fn decode(bytes: &[u8]) -> Decoded
+pub fn decode(bytes: &[u8]) -> Result<Decoded, DecodeFault>
     ensures value { result ≡ decoded bytes.now }
     ensures tells { Tells bytes.now result }
 {
     let [first, rest @ ..] = bytes else {
-        return Decoded::End;
+        return Err(DecodeFault::End);
     };
     match lead_of(*first) {
         Some(lead) => tail(lead, rest),
-        None => Decoded::Bad { at: 0 },
+        None => Err(DecodeFault::Bad { at: 0 }),
     }
 }
 
@@ -94,13 +103,28 @@ pub fn decode(bytes: &[u8]) -> Decoded
 pub struct Encoded {
     bytes: [u8; 4],
     len: usize,
-    ghost fits: { len ≤ 4 },
+}
+
+impl Model for Encoded {
+    ghost use Rattle.std.specs.Prelude.{List, ℕ};
+
+    ghost Value = { List ℕ };
+
+    ghost use Rattle.codes.specs.Encoded.{front, IsPadded, cells_of, cells_of-front};
+
+    ghost view = { front };
+
+    ghost invariant = { IsPadded };
+
+    ghost inverse = { cells_of };
+
+    ghost inverse_ok = { cells_of-front };
 }
 
 impl Encoded {
     // The bytes themselves. Constant time.
     pub fn as_slice(&self) -> &[u8]
-        ensures { result.now ≡ take self.now.len self.now.bytes }
+        ensures { result.now ≡ self.now }
     {
         &self.bytes[0..self.len]
     }
@@ -109,40 +133,32 @@ impl Encoded {
 // The bytes of `code`, which read back are that code again, whatever stands behind them; none for a surrogate and for
 // what lies past the last code of Unicode. Constant time.
 pub fn encode(code: u32) -> Option<Encoded>
-    ensures value { MatchOption result (is_scalar code ≡ false) (λ e. (is_scalar code ≡ true) × (take e.len e.bytes ≡ bytes_of code)) }
-    ensures back { IfSome result (λ e. (rest : List ℕ) → decoded (take e.len e.bytes ++ rest) ≡ Decoded.Code code e.len) }
+    ensures value { MatchOption result (is_scalar code ≡ false) (λ bytes. (is_scalar code ≡ true) × (bytes ≡ bytes_of code)) }
+    ensures back { IfSome result (λ bytes. (rest : List ℕ) → decoded (bytes ++ rest) ≡ Ok (record { code = code; len = length bytes })) }
 {
-    if code < 0x80 {
-        return Some(Encoded {
+    let second = (0x80 + code / 4096 % 64) as u8;
+    let third = (0x80 + code / 64 % 64) as u8;
+    let last = (0x80 + code % 64) as u8;
+    match code {
+        0..=0x7f => Some(Encoded {
             bytes: [code as u8, 0, 0, 0],
             len: 1,
-        });
-    }
-    let last = (0x80 + code % 64) as u8;
-    if code < 0x800 {
-        return Some(Encoded {
+        }),
+        0x80..=0x7ff => Some(Encoded {
             bytes: [(0xc0 + code / 64) as u8, last, 0, 0],
             len: 2,
-        });
-    }
-    let third = (0x80 + code / 64 % 64) as u8;
-    if code < 0x1_0000 {
-        if 0xd800 <= code && code < 0xe000 {
-            return None;
-        }
-        return Some(Encoded {
+        }),
+        0xd800..=0xdfff => None,
+        0x800..=0xffff => Some(Encoded {
             bytes: [(0xe0 + code / 4096) as u8, third, last, 0],
             len: 3,
-        });
+        }),
+        0x1_0000..=0x10_ffff => Some(Encoded {
+            bytes: [(0xf0 + code / 262_144) as u8, second, third, last],
+            len: 4,
+        }),
+        _ => None,
     }
-    if code >= 0x11_0000 {
-        return None;
-    }
-    let second = (0x80 + code / 4096 % 64) as u8;
-    Some(Encoded {
-        bytes: [(0xf0 + code / 262_144) as u8, second, third, last],
-        len: 4,
-    })
 }
 
 #[cfg(test)]
@@ -171,15 +187,15 @@ mod tests {
             };
             assert_eq!(rt; encoded.as_slice(), bytes);
             let len = bytes.len();
-            assert_eq!(rt; decode(bytes), Decoded::Code { code, len });
+            assert_eq!(rt; decode(bytes), Ok(Decoded { code, len }));
             for i in 1..len {
-                assert_eq!(rt; decode(&bytes[0..i]), Decoded::Cut);
+                assert_eq!(rt; decode(&bytes[0..i]), Err(DecodeFault::Cut));
             }
         }
         for code in [0xd800, 0xdfff, 0x11_0000, 0xffff_ffff] {
             assert!(rt; encode(code).is_none());
         }
-        assert_eq!(rt; decode(&[]), Decoded::End);
+        assert_eq!(rt; decode(&[]), Err(DecodeFault::End));
         Ok(())
     }
 
@@ -220,7 +236,7 @@ mod tests {
             (3, &[0xf4, 0x8f, 0xbf, 0xc0]),
         ];
         for (at, bytes) in table {
-            assert_eq!(rt; decode(bytes), Decoded::Bad { at });
+            assert_eq!(rt; decode(bytes), Err(DecodeFault::Bad { at }));
         }
     }
 }

@@ -1,31 +1,27 @@
 // Finding and replacing a word.
-ghost use Rattle.std.specs.Prelude.{◌≡◌, ℕ, ◌+◌, ◌≤◌, true, List, length, Decides};
+ghost use Rattle.std.specs.Prelude.{◌≡◌, ◌<◌, length, slice_index, Decides};
 ghost use Rattle.document.specs.Words.{StandsAt, FirstAt};
 
 use buffer::buffer::Buffer;
+
+// Whether the code at index `at` is there and is `code`.
+pub(crate) fn has_code<B: Buffer>(buffer: &B, at: u32, code: u32) -> bool
+    ensures { Decides result ((at < length (B.Buffer.doc buffer.now)) × (slice_index (B.Buffer.doc buffer.now) at ≡ code)) }
+{
+    buffer.code(at) == Ok(code)
+}
 
 // Whether `word` stands at `place`.
 fn stands_at<B: Buffer>(buffer: &B, word: &[u32], place: u32) -> bool
     ensures { Decides result (StandsAt (B.Buffer.doc buffer.now) word.now place) }
 {
     let len = buffer.len();
-    if place > len {
+    if place > len || word.len() > (len - place) as usize {
         return false;
     }
-    if word.len() > (len - place) as usize {
-        return false;
-    }
-    for (i, code) in word.iter().enumerate() {
-        match buffer.code(place + i as u32) {
-            Ok(found) => {
-                if found != *code {
-                    return false;
-                }
-            }
-            Err(_) => return false,
-        }
-    }
-    true
+    word.iter()
+        .zip(place..len)
+        .all(|(code, at)| has_code(buffer, at, *code))
 }
 
 // The first place from `from` on at which `word` stands, none where it stands nowhere. Costs the places passed over
@@ -33,10 +29,5 @@ fn stands_at<B: Buffer>(buffer: &B, word: &[u32], place: u32) -> bool
 pub fn find<B: Buffer>(buffer: &B, word: &[u32], from: u32) -> Option<u32>
     ensures { FirstAt (B.Buffer.doc buffer.now) word.now from result }
 {
-    for place in from..buffer.len() + 1 {
-        if stands_at(buffer, word, place) {
-            return Some(place);
-        }
-    }
-    None
+    (from..buffer.len() + 1).find(|place| stands_at(buffer, word, *place))
 }

@@ -3,6 +3,7 @@ ghost use Rattle.std.specs.Prelude.{◌≡◌, ◌<◌, ◌≤◌, length, Match
 ghost use Rattle.buffer.specs.Refusals.{refusal_of, told};
 ghost use Rattle.document.specs.Lines.{line_of, line_end};
 
+use crate::find::has_code;
 use buffer::buffer::Buffer;
 use buffer::fault::BufferFault;
 use codes::code::NEWLINE;
@@ -21,17 +22,9 @@ fn line_end<B: Buffer>(buffer: &B, place: u32) -> u32
     ensures { result ≡ line_end (B.Buffer.doc buffer.now) place }
 {
     let len = buffer.len();
-    for i in place..len {
-        match buffer.code(i) {
-            Ok(code) => {
-                if code == NEWLINE {
-                    return i;
-                }
-            }
-            Err(_) => return i,
-        }
-    }
-    len
+    (place..len)
+        .find(|at| has_code(buffer, *at, NEWLINE))
+        .unwrap_or(len)
 }
 
 // The line that holds `place`; a place past the end is refused with 1, spot `place`. Costs the codes up to its end.

@@ -1,16 +1,40 @@
 // Handing out the codes of a stretch.
-ghost use Rattle.std.specs.Prelude.{◌≡◌, ℕ, ◌-◌, ◌<◌, ◌≤◌, List, length};
 ghost use Rattle.document.specs.Stretches.{Hands};
 
 use buffer::buffer::Buffer;
 use buffer::fault::BufferFault;
-use std::alloc::{AllocError, AllocFailed, Global};
+use std::alloc::{AllocFailed, Global};
+use thiserror::Error;
 
 // Why a stretch is not handed out.
-#[derive(Clone, Copy, PartialEq, Eq, Debug)]
+#[derive(Clone, Copy, PartialEq, Eq, Debug, Error)]
 pub enum StretchFault {
+    #[error(transparent)]
     Buffer(BufferFault),
+    #[error("memory is short")]
     NoMemory,
+}
+
+impl From<BufferFault> for StretchFault {
+    ghost use Rattle.std.specs.Prelude.{◌≡◌};
+    ghost use Rattle.document.specs.declared.stretch.StretchFault.TheVariants.{Buffer as FromBuffer};
+
+    ghost from_gives = { λ fault found. found ≡ FromBuffer fault };
+
+    fn from(fault: BufferFault) -> StretchFault {
+        StretchFault::Buffer(fault)
+    }
+}
+
+impl<T: Drop> From<AllocFailed<T>> for StretchFault {
+    ghost use Rattle.std.specs.Prelude.{◌≡◌};
+    ghost use Rattle.document.specs.declared.stretch.StretchFault.TheVariants.{NoMemory};
+
+    ghost from_gives = { λ _ fault. fault ≡ NoMemory };
+
+    fn from(_refused: AllocFailed<T>) -> StretchFault {
+        StretchFault::NoMemory
+    }
 }
 
 // The codes of the document from the place `from` up to the place `to`, none where `from` is not in front of `to`;
@@ -30,13 +54,7 @@ pub fn stretch<B: Buffer>(
     }
     let mut codes = Vec::new(heap);
     for i in from..to {
-        let code = match buffer.code(i) {
-            Ok(code) => code,
-            Err(fault) => return Err(StretchFault::Buffer(fault)),
-        };
-        if codes.push(code).is_err() {
-            return Err(StretchFault::NoMemory);
-        }
+        codes.push(buffer.code(i)?)?;
     }
     Ok(codes)
 }

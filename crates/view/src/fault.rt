@@ -74,19 +74,19 @@ impl Cause {
     }
 }
 
-impl ViewFault {
-    // What a host is told. Constant time.
-    pub fn refusal(&self) -> Refusal
-        ensures { result ≡ view_refusal self.now }
-    {
-        let (number, spot) = match self.cause {
+impl From<ViewFault> for Refusal {
+    ghost from_gives = { λ fault refusal. refusal ≡ view_refusal fault };
+
+    // What a host that called the view is told. Constant time.
+    fn from(fault: ViewFault) -> Refusal {
+        let (number, spot) = match fault.cause {
             Cause::Buffer(fault) => {
-                let told = fault.refusal();
+                let told = Refusal::from(fault);
                 (told.number, told.spot)
             }
             Cause::PastEnd { place } => (1, u64::from(place)),
             Cause::NoLayer { steps } => (6, u64::from(steps)),
-            Cause::OtherVerb { verb } => (7, u64::from(verb as u32)),
+            Cause::OtherVerb { verb } => (7, u64::from(verb)),
             Cause::OutOfRange { value } => (8, value),
             Cause::BadCode { index } => (3, index),
             Cause::BadFold { place } => (10, u64::from(place)),
@@ -96,11 +96,13 @@ impl ViewFault {
         };
         Refusal {
             number,
-            layer: self.layer,
+            layer: fault.layer,
             spot,
         }
     }
+}
 
+impl ViewFault {
     // The same as a fault of the view above: one layer deeper, and past 254 no deeper. Constant time.
     pub fn risen(self) -> ViewFault
         ensures { result ≡ deeper self }

@@ -2,5 +2,5 @@ use Rattle.std.proofs.Common.{rules}
 use Rattle.std.proofs.lemmas.Slice.{overwrites}
 use Rattle.buffer.proofs.gap.put.Goals as goal
 
-pub returns : goal.returns
-returns c = record { len = search (rules, overwrites); before = search (rules, overwrites); behind = search (rules, overwrites) }
+pub returns-clause-behind : goal.returns-clause-behind
+returns-clause-behind c = search (rules, overwrites)

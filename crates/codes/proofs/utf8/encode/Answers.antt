@@ -1,35 +1,14 @@
--- The bytes of each range are those of `bytes_of`, and what is written is read again (proofs.Encoding).
-use Rattle.std.proofs.Common.{◌≡◌, true, sym, arith}
-use lib.Utf8.{scalar}
+-- The bytes of each range are those of `bytes_of` (proofs.Encoding).
+use Rattle.std.proofs.Common.{arith}
 use Rattle.std.proofs.lemmas.Bool.Decides.{nat_tests}
-use Rattle.codes.proofs.Encoding.{encode_1, encode_2, encode_3, encode_4, reads_written}
+use Rattle.codes.proofs.Encoding.{encode_2, encode_3, encode_4}
 use Rattle.codes.proofs.utf8.encode.Goals as goal
 
-pub returns-then-code-lt128 : goal.returns-then-code-lt128
-returns-then-code-lt128 c =
-    let x = c.args.code in
-    let is : scalar x ≡ true = grind (arith, nat_tests) in
-    let e = encode_1 x (omega arith) in
-    record { value = (is, sym e); back = λ rest. rw e at (reads_written x rest is) }
+pub returns-in-128-to-2047-clause-value : goal.returns-in-128-to-2047-clause-value
+returns-in-128-to-2047-clause-value c = grind (arith, nat_tests, encode_2)
 
-pub returns-then-code-lt2048 : goal.returns-then-code-lt2048
-returns-then-code-lt2048 c =
-    let x = c.args.code in
-    let is : scalar x ≡ true = grind (arith, nat_tests) in
-    let e = encode_2 x (omega arith) (omega arith) in
-    record { value = (is, sym e); back = λ rest. rw e at (reads_written x rest is) }
+pub returns-in-2048-to-65535-clause-value : goal.returns-in-2048-to-65535-clause-value
+returns-in-2048-to-65535-clause-value c = grind (arith, nat_tests, encode_3)
 
-pub returns-then-code-lt65536 : goal.returns-then-code-lt65536
-returns-then-code-lt65536 c =
-    let x = c.args.code in
-    let sides = c.else-code-ge55296.either in
-    let is : scalar x ≡ true = grind (arith, nat_tests) in
-    let e = encode_3 x (omega arith) (omega arith) in
-    record { value = (is, sym e); back = λ rest. rw e at (reads_written x rest is) }
-
-pub returns : goal.returns
-returns c =
-    let x = c.args.code in
-    let is : scalar x ≡ true = grind (arith, nat_tests) in
-    let e = encode_4 x (omega arith) in
-    record { value = (is, sym e); back = λ rest. rw e at (reads_written x rest is) }
+pub returns-in-65536-to-1114111-clause-value : goal.returns-in-65536-to-1114111-clause-value
+returns-in-65536-to-1114111-clause-value c = grind (arith, nat_tests, encode_4)

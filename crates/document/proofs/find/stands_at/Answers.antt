@@ -1,17 +1,13 @@
-use Rattle.std.proofs.Common.{◌∙◌, arith}
-use Rattle.document.proofs.Standing.{decides_no, decides_yes, stands_inside, stands_code, stands_from}
+use Rattle.std.proofs.Common.{◌≡◌, ℕ, ◌-◌, ◌<◌, length, get_or, refl, arith, rules, tests}
+use Rattle.std.proofs.lemmas.Iterator.{YieldsList-from_slice, YieldsList-from_range, YieldsList-from_zip, cases_from_all}
+use Rattle.document.proofs.Standing.{decided}
 use Rattle.document.proofs.find.stands_at.Goals as goal
 
-pub returns-then-place-len : goal.returns-then-place-len
-returns-then-place-len g c =
-    decides_no (λ s. let h = stands_inside _ _ c.args.place s in omega arith)
-
-pub returns-then-word-len : goal.returns-then-word-len
-returns-then-word-len g c = decides_no (λ s. let h = stands_inside _ _ c.args.place s in omega arith)
-
-pub returns-then-found-code : goal.returns-then-found-code
-returns-then-found-code g c =
-    decides_no (λ s. c.if-found-code.true (c.in-Ok.ensures.1 ∙ stands_code _ _ c.args.place s c.loop-i.i (omega arith)))
-
 pub returns : goal.returns
-returns g c = decides_yes (stands_from (g.B.Buffer.doc c.args.buffer.now) c.args.word.now c.args.place (omega arith) (λ k h. c.loop-i.invariant k (omega arith)))
+returns g c =
+    let d = g.B.Buffer.doc c.args.buffer.now in
+    let w = c.args.word.now in
+    let n = c.len-len.result - c.args.place in
+    decided d w c.args.place n (omega arith) (omega arith) c.all.result
+    (cases_from_all c.all.new.self _ _ (λ (p : ℕ × ℕ). (p.1 < length d) × (get_or d p.1 0 ≡ p.0)) (λ (p : ℕ × ℕ). p.1 < length d → get_or d p.1 0 ≡ p.0 → ⊥) c.all.ensures.ran
+    (YieldsList-from_zip (YieldsList-from_slice w (cc)) (YieldsList-from_range c.args.place c.len-len.result n (cc) refl)) (λ x q k. search (rules, tests)) (λ x q k l e. search (rules, tests)))
