@@ -5,7 +5,6 @@ use buffer::fixed_buffer::FixedBuffer;
 use codes::code::{PLACEHOLDER, SOFT_BREAK};
 use places::change::Change;
 use std::process::Abort;
-use std::test::Fail;
 use view::fault::ViewFault;
 use view::view::View;
 
@@ -41,66 +40,54 @@ pub fn told(number: u8, layer: u8, spot: u64) -> Option<Refusal> {
 }
 
 pub fn refusal(answer: Result<Change, ViewFault>) -> Option<Refusal> {
-    match answer {
-        Ok(_) => None,
-        Err(fault) => Some(fault.refusal()),
+    answer.err().map(|fault| Refusal::from(fault))
+}
+
+// A code that is expected of a text: a number, or a letter, where | stands for a soft break and ~ for a placeholder.
+trait Expected {
+    fn code(&self) -> u32;
+}
+
+impl Expected for u32 {
+    fn code(&self) -> u32 {
+        *self
     }
 }
 
-pub fn check_text<V: View>(rt: &impl Abort, view: &V, codes: &[u32]) -> Result<(), Fail>
-    requires { V.View.sound view.now }
-{
-    assert_eq!(rt; view.len() as usize, codes.len());
-    let mut u = 0;
-    for code in codes {
-        match view.code(u) {
-            Ok(found) => assert_eq!(rt; found, *code),
-            Err(_) => return Err(Fail::new("a code of the text")),
-        }
-        u = u32::saturating_add(u, 1);
-    }
-    Ok(())
-}
-
-// The text in letters, where | stands for a soft break and ~ for a placeholder.
-pub fn check_shown<V: View>(rt: &impl Abort, view: &V, text: &str) -> Result<(), Fail>
-    requires { V.View.sound view.now }
-{
-    let bytes = text.as_bytes();
-    assert_eq!(rt; view.len() as usize, bytes.len());
-    let mut u = 0;
-    for byte in bytes {
-        let expected = match *byte {
+impl Expected for u8 {
+    fn code(&self) -> u32 {
+        match *self {
             b'|' => SOFT_BREAK,
             b'~' => PLACEHOLDER,
             other => u32::from(other),
-        };
-        match view.code(u) {
-            Ok(found) => assert_eq!(rt; found, expected),
-            Err(_) => return Err(Fail::new("a code of the text")),
         }
-        u = u32::saturating_add(u, 1);
     }
-    Ok(())
 }
 
-// The places under 0, 1, 2, .. of the text.
-pub fn check_under<V: View>(rt: &impl Abort, view: &V, places: &[u32]) -> Result<(), Fail>
-    requires { V.View.sound view.now }
-{
-    let mut u = 0;
-    for place in places {
-        match view.under(u) {
-            Ok(found) => assert_eq!(rt; found, *place),
-            Err(_) => return Err(Fail::new("a place of the text")),
-        }
-        u = u32::saturating_add(u, 1);
+fn check_codes<V: View, E: Expected>(rt: &impl Abort, view: &V, codes: &[E]) {
+    assert_eq!(rt; view.len() as usize, codes.len());
+    for (u, expected) in (0..view.len()).zip(codes) {
+        assert_eq!(rt; view.code(u).ok(), Some(expected.code()));
     }
-    match view.under(u) {
-        Ok(_) => Err(Fail::new("a place past the end")),
-        Err(fault) => {
-            assert_eq!(rt; Some(fault.refusal()), told(1, 0, u64::from(u)));
-            Ok(())
-        },
+}
+
+pub fn check_text<V: View>(rt: &impl Abort, view: &V, codes: &[u32]) {
+    check_codes(rt, view, codes);
+}
+
+pub fn check_shown<V: View>(rt: &impl Abort, view: &V, text: &str) {
+    check_codes(rt, view, text.as_bytes());
+}
+
+// The places under 0, 1, 2, .. of the text, up to its end.
+pub fn check_under<V: View>(rt: &impl Abort, view: &V, places: &[u32]) {
+    let len = view.len();
+    assert_eq!(rt; len as usize + 1, places.len());
+    for (u, place) in (0..len + 1).zip(places) {
+        assert_eq!(rt; view.under(u).ok(), Some(*place));
     }
+    assert_eq!(rt;
+        view.under(len + 1).err().map(|fault| Refusal::from(fault)),
+        told(1, 0, u64::from(len) + 1)
+    );
 }

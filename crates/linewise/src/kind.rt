@@ -1,0 +1,99 @@
+// The kind of a layer that goes through the text below line by line, as a scan of some width does. Each question walks the
+// text below up to the place asked for; a change walks all of it.
+ghost use Rattle.std.specs.Prelude.{◌≡◌, ◌≤◌, length};
+ghost use Rattle.view.specs.Kinds.{Countable};
+ghost use Rattle.view.specs.Seen.{text_at};
+ghost use Rattle.std.proofs.Common.{rules};
+
+use crate::walking::Walk;
+use crate::width::Width;
+use places::change::Change;
+use view::fault::Cause;
+use view::kind::Kind;
+use view::order::Order;
+use view::view::View;
+
+#[derive(Drop)]
+pub struct Lines<S> {
+    scan: S,
+}
+
+impl<S: Width> Lines<S> {
+    // The walk through the text of `below`.
+    fn walk<'a, V: View>(&self, below: &'a V) -> Walk<'a, S, V>
+        requires low { length (text_at V.View below.now) ≤ 1073741824 }
+        requires room { Countable (S.records_at (S.width_of self.now.scan)) (length (text_at V.View below.now)) }
+        ensures scan { result.scan ≡ self.now.scan }
+        ensures below { result.below.now ≡ below.now }
+    {
+        Walk {
+            scan: self.scan,
+            below,
+        }
+    }
+}
+
+impl<S: Width> Kind for Lines<S> {
+    ghost records = { λ l. S.records_at (S.width_of l.scan) };
+
+    ghost initial = { S.records_at S.OPENING };
+
+    ghost grows = { Prim.search rules };
+
+    ghost speaks = { Prim.search rules };
+
+    ghost begins = { Prim.search rules };
+
+    fn new() -> Lines<S> {
+        Lines {
+            scan: S::at_width(S::OPENING),
+        }
+    }
+
+    fn grown(ceiling: u32) -> u64 {
+        u64::from(S::FACTOR) * u64::from(ceiling)
+    }
+
+    fn has_verb(verb: char) -> bool {
+        verb == S::VERB
+    }
+
+    fn len<V: View>(&self, below: &V) -> u32 {
+        self.walk(below).len()
+    }
+
+    fn code<V: View>(&self, below: &V, u: u32) -> u32 {
+        self.walk(below).seek(u).code
+    }
+
+    fn under<V: View>(&self, below: &V, u: u32) -> u32 {
+        self.walk(below).seek(u).under
+    }
+
+    fn first<V: View>(&self, below: &V, l: u32) -> u32 {
+        self.walk(below).reach(l)
+    }
+
+    fn last<V: View>(&self, below: &V, l: u32) -> u32 {
+        self.walk(below).last(l)
+    }
+
+    fn follow<V: View>(&mut self, below: &V, len: u32, change: Change) -> Change {
+        let from = S::anew(below, change.start);
+        self.walk(below).raise(len, from, change)
+    }
+
+    fn order<V: View>(&mut self, below: &V, order: Order, w: &[u32]) -> Result<Change, Cause> {
+        if order.x < S::NARROWEST || S::WIDEST < order.x {
+            return Err(Cause::OutOfRange {
+                value: u64::from(order.x),
+            });
+        }
+        let old = self.walk(below).len();
+        *self = Lines {
+            scan: S::at_width(order.x),
+        };
+        let new = self.walk(below).len();
+        Ok(Change { start: 0, old, new })
+    }
+}
