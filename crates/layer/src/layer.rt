@@ -27,6 +27,7 @@ pub struct Layer<V: View, K: Kind> {
     kind: K,
     len: u32,
     ceiling: u32,
+    // stays: no mark of a value that is there or not, since the records of a sleeping layer count in its stack
     awake: bool,
     ghost sound: { Sound V.View below (K.Kind.records kind) len ceiling awake } by { sound_once V.View below (K.Kind.records kind) len ceiling awake },
 }

@@ -11,6 +11,7 @@ use crate::view::View;
 use places::change::Change;
 
 pub trait Kind: Sized {
+    // stays: each question asks `Over` of the view below and the records, two values that only the layer holds together
     ghost records: { Self → Records };
 
     // the records at opening

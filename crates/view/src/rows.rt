@@ -11,6 +11,7 @@ use std::alloc::{AllocFailed, Global};
 use thiserror::Error;
 
 // Why a row is not handed out.
+// stays: beside the like enum of `document::stretch`; one generic enum would still need a `From` for each fault
 #[derive(Clone, Copy, PartialEq, Eq, Debug, Error)]
 pub enum RowFault {
     #[error("{0}")]
@@ -27,10 +28,10 @@ impl From<ViewFault> for RowFault {
     }
 }
 
-impl From<AllocFailed<u32>> for RowFault {
+impl<T: Drop> From<AllocFailed<T>> for RowFault {
     ghost from_gives = { λ _ fault. fault ≡ NoMemory };
 
-    fn from(_unkept: AllocFailed<u32>) -> RowFault {
+    fn from(_unkept: AllocFailed<T>) -> RowFault {
         RowFault::NoMemory
     }
 }
