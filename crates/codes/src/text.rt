@@ -111,4 +111,13 @@ mod tests {
             );
         }
     }
+
+    #[test]
+    fn messages(rt: HostRuntime) -> Result<(), Fail> {
+        let bad = format!(in rt.alloc(); "{}", TextFault::Bad { at: 3 })?;
+        assert_eq!(rt; bad.as_str(), "the text is wrong or cut off at index 3");
+        let full = format!(in rt.alloc(); "{}", TextFault::NoMemory)?;
+        assert_eq!(rt; full.as_str(), "out of memory");
+        Ok(())
+    }
 }
