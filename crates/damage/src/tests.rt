@@ -27,14 +27,10 @@ fn check_edit(
     let _ = view.edit(0, 0, &TEXT);
     let rows_before = count_rows(&view);
     assert_eq!(rt; rows_before, 3);
-    match view.edit(a, r, w) {
-        Ok(change) => {
-            assert_eq!(rt; count_rows(&view), rows);
-            assert_eq!(rt; damage_of(&view, change, rows_before), expected);
-            Ok(())
-        }
-        Err(_) => Err(Fail::new("an edit of the text")),
-    }
+    let change = view.edit(a, r, w)?;
+    assert_eq!(rt; count_rows(&view), rows);
+    assert_eq!(rt; damage_of(&view, change, rows_before), expected);
+    Ok(())
 }
 
 #[test]
