@@ -5,8 +5,8 @@ ghost use Rattle.buffer.specs.Gaps.{ends, front_of, back_of, held, free, EditsCe
 
 use crate::fault::{BufferFault, check_edit};
 
-// How many cells in front of the gap hold codes, from the first cell on, and how many behind it, up to the last; in
-// all at most `MOST` of them.
+// How many cells in front of the gap hold codes, from the first cell on, and how many behind it, up to the last. Of the
+// two numbers counts what fits in the cells and, in all, in `MOST`.
 #[derive(Clone, Copy, Default)]
 pub struct Gap<const MOST: u32> {
     pub front: usize,

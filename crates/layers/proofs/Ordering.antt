@@ -1,8 +1,7 @@
 -- Marks put behind those that end by their place, and the first mark that passes taken out, by its index. Assumes nothing.
-use Rattle.std.proofs.Common.{◌≡◌, ℕ, suc, ◌+◌, ◌<◌, ◌≤◌, Some, None, Ok, Err, Option, Result, Bool, true, false, cond, not, ◌&&◌, ltb, leb, List, [], ◌∷◌, ◌++◌, map, length, get_or, take, drop, sym, refl, ap, ◌∙◌, subst, arith}
+use Rattle.std.proofs.Common.{◌≡◌, ℕ, suc, ◌+◌, ◌<◌, ◌≤◌, Ok, Err, Result, Bool, true, false, cond, not, ◌&&◌, ltb, leb, List, [], ◌∷◌, ◌++◌, map, length, get_or, take, drop, sym, refl, ap, ◌∙◌, subst, arith}
 use Rattle.std.specs.List.{prefix_len, insert, remove}
-use Rattle.std.specs.Option.{OnSome, is_some}
-use Rattle.std.specs.Result.{MatchResult, IfErr, OnOk, IsErrAnd, is_ok}
+use Rattle.std.specs.Result.{MatchResult, OnOk, OnErr, IsErrAnd, is_ok}
 use Rattle.buffer.specs.Refusals.{told}
 use Rattle.view.specs.declared.fault.Cause.{Cause}
 use Rattle.view.specs.Refusals.{cause_refusal}
@@ -81,7 +80,7 @@ module _ {R T : Type 0} (mark : R → Mark) (xs ys : List R) (x : R) (k : ℕ) (
       ∙ sym (put_is (mark x) (map mark xs))
 
   pub put_made : (a : Result (Unit {0}) R) (r : Result (Unit {0}) Cause) → is_ok a ≡ (ltb (length xs) 64 && leb k (length xs))
-      → OnOk a (ys ≡ insert xs k x) → IfErr a (λ z. (z ≡ x) × (t' ≡ t)) → MatchResult a (λ v. r ≡ Ok v) (λ e. IsErrAnd r (P e))
+      → OnOk a (ys ≡ insert xs k x) → OnErr a (t' ≡ t) → MatchResult a (λ v. r ≡ Ok v) (λ e. IsErrAnd r (P e))
       → Puts (mark x) (map mark xs) (map mark ys) t t' r
   put_made (Ok v) r made ok err m =
       let long = length-map xs mark in
@@ -91,7 +90,7 @@ module _ {R T : Type 0} (mark : R → Mark) (xs ys : List R) (x : R) (k : ℕ) (
   put_made (Err z) (Err f) made ok err m =
       let long = length-map xs mark in
       let most = prefix_len-le-length (λ m. leb (past m) (mark x).at) (map mark xs) in
-      (grind (arith, nat_tests), full_told z f m, err.1)
+      (grind (arith, nat_tests), full_told z f m, err)
 
 -- some mark passes where the index of the first that does is one of a record
 pub some_is : {R : Type 0} (p : Mark → Bool) (mark : R → Mark) (xs : List R) (k n : ℕ) → k ≡ prefix_len (λ m. not (p m)) (map mark xs) → n ≡ length xs → ltb k n ≡ some p (map mark xs)
@@ -114,11 +113,6 @@ taken_out p mark xs ys found k k_is inside read now_is =
           ∙ ap (remove (map mark xs)) k_is
           ∙ sym (without_is p (map mark xs) within),
     )
-
--- what is said of a record that is taken out holds where there is one
-pub taken_if_there : {R : Type 0} (o : Option R) (k n : ℕ) (P : Type 0) → is_some o ≡ ltb k n → k < n → OnSome o P → P
-taken_if_there (Some x) k n P made inside h = h
-taken_if_there None k n P made inside h = absurd (grind (arith, nat_tests))
 
 -- no mark passes where there is no record at the index of the first that does
 pub none_passes : {R : Type 0} (p : Mark → Bool) (mark : R → Mark) (xs : List R) (k : ℕ) → k ≡ prefix_len (λ m. not (p m)) (map mark xs) → length xs ≤ k → some p (map mark xs) ≡ false

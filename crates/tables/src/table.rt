@@ -1,5 +1,5 @@
 // Up to 64 records of one kind, in the order of their places.
-ghost use Rattle.std.specs.Prelude.{◌≡◌, ◌≤◌, ◌&&◌, [], ◌∷◌, length, OnOk, IfErr, is_ok, OnSome, IfNone, is_some, slice_get, insert, remove, nat_le, nat_lt};
+ghost use Rattle.std.specs.Prelude.{◌≡◌, ◌≤◌, ◌&&◌, [], ◌∷◌, length, OnOk, OnErr, IfErr, is_ok, IfNone, is_some, slice_get, insert, remove, nat_le, nat_lt};
 ghost use Rattle.std.specs.List.{prefix_len, AllByRecursion};
 ghost use Rattle.places.specs.Marks.{past, followed};
 ghost use Rattle.tables.specs.Records.{Room};
@@ -46,7 +46,8 @@ impl<R: Record> Table<R> {
     pub fn insert(&mut self, k: usize, record: R) -> Result<(), R>
         ensures made { is_ok result ≡ (nat_lt (length (records_of self.old)) 64 && nat_le k (length (records_of self.old))) }
         ensures ok { OnOk result (records_of self.new ≡ insert (records_of self.old) k «record») }
-        ensures err { IfErr result (λ refused. (refused ≡ «record») × (self.new ≡ self.old)) }
+        ensures err { OnErr result (self.new ≡ self.old) }
+        ensures handed_back { IfErr result (λ refused. refused ≡ «record») }
     {
         if k > self.len() {
             return Err(record);
@@ -60,7 +61,7 @@ impl<R: Record> Table<R> {
     pub fn remove(&mut self, k: usize) -> Option<R>
         ensures made { is_some result ≡ nat_lt k (length (records_of self.old)) }
         ensures value { result ≡ slice_get (records_of self.old) k }
-        ensures some { OnSome result (records_of self.new ≡ remove (records_of self.old) k) }
+        ensures records { records_of self.new ≡ remove (records_of self.old) k }
         ensures none { IfNone result (self.new ≡ self.old) }
     {
         self.items.pop_at(k)
@@ -115,12 +116,7 @@ mod tests {
 
     // Where the record at `k` stands, or 99 where there is none.
     fn place<R: Record>(table: &Table<R>, k: usize) -> u32 {
-        let records = table.records();
-        if k < records.len() {
-            records[k].place()
-        } else {
-            99
-        }
+        table.records().get(k).map_or(99, |record| record.place())
     }
 
     // Three records in a table that has followed a change.

@@ -1,12 +1,12 @@
 use Rattle.std.proofs.Common.{◌≡◌, ◌<◌, ◌≤◌, Bool, not, List, [], length, get_or, arith, refl, ap, ◌∙◌, rules, tests}
 use Rattle.std.proofs.lemmas.Bool.{cond-true}
-use Rattle.std.specs.List.{prefix_len, remove}
+use Rattle.std.specs.List.{prefix_len}
 use Rattle.places.specs.Marks.{Mark}
 use Rattle.view.specs.Orders.{meets}
 use Rattle.tables.specs.Tables.{records_of, marks_of}
 use Rattle.tables.proofs.Tables.{count_marks}
 use Rattle.layers.specs.Ordering.{gone_causes}
-use Rattle.layers.proofs.Ordering.{none_passes, taken_if_there, taken_out}
+use Rattle.layers.proofs.Ordering.{none_passes, taken_out}
 use Rattle.layers.proofs.Carrying.{no_cause, gone_change_lem}
 use Rattle.layers.proofs.finding.take_out.Goals as goal
 
@@ -28,8 +28,7 @@ returns g c =
     let at = c.in-Some.ensures.lookup in
     let inside : c.count-k.result < length (records_of c.args.table.now) = omega (arith, at.3.0, ap length c.records-records.ensures.value) in
     let read : c.in-Some.found.now ≡ get_or (records_of c.args.table.now) c.count-k.result c.in-Some.found.now = at.1 ∙ ap (λ (z : List g.row.R.Denot). get_or z c.count-k.result c.in-Some.found.now) c.records-records.ensures.value in
-    let left : records_of c.remove.new.self ≡ remove (records_of c.args.table.now) c.count-k.result = taken_if_there c.remove.result c.count-k.result (length (records_of c.args.table.now)) _ c.remove.ensures.made inside c.remove.ensures.some in
-    let gone = taken_out p g.R.Record.mark (records_of c.args.table.now) (records_of c.remove.new.self) c.in-Some.found.now c.count-k.result k_is inside read left in (
+    let gone = taken_out p g.R.Record.mark (records_of c.args.table.now) (records_of c.remove.new.self) c.in-Some.found.now c.count-k.result k_is inside read c.remove.ensures.records in (
       no_cause (gone_causes p ms c.args.x) (ap not gone.0, tt),
       gone.2,
       gone_change_lem p ms (g.R.Record.mark c.in-Some.found.now) c.place.result c.place-2.result c.first_over.result c.shown.result c.past.result
