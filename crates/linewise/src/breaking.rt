@@ -11,24 +11,24 @@ use view::view::View;
 // last space among the next `width` codes, or behind all of them if none is a space. Costs a question for each code of
 // the row and one more.
 pub fn row_end<V: View>(below: &V, width: u32, start: u32) -> u32
-    requires { V.View.sound below.now }
     ensures { result ≡ row_end width (text_at V.View below.now) start }
 {
     let len = below.len();
     if start >= len {
         return start;
     }
-    let mut spaced = start;
+    let mut behind_space = None;
+    // stays: by index, since a view is asked for the code at a place
     for i in start..len {
         let code = code_at(below, i);
         if is_row_end(code) {
             return i;
         }
         if i - start >= width {
-            return if spaced == start { i } else { spaced };
+            return behind_space.unwrap_or(i);
         }
         if code == SPACE {
-            spaced = i + 1;
+            behind_space = Some(i + 1);
         }
     }
     len

@@ -2,7 +2,9 @@
 #![tactic(auto)]
 
 pub mod breaking;
+pub mod kind;
 pub mod scan;
 pub mod tabs;
 mod walking;
+pub mod width;
 pub mod wrap;

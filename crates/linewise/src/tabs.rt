@@ -1,32 +1,26 @@
-// A layer of tab stops: a tab is shown as spaces up to the next stop of its line. Each question walks the text below up to
-// the place asked for; a change walks all of it.
+// A layer of tab stops: a tab is shown as spaces up to the next stop of its line.
 ghost use Rattle.std.specs.Prelude.{◌≡◌, ◌≤◌};
 ghost use Rattle.lines.specs.Tabs.{tab_stops};
-ghost use Rattle.view.specs.Layers.{tabs as tab_records};
-ghost use Rattle.lines.proofs.Steadiness.{tabs_steady};
+ghost use Rattle.view.specs.Layers.{tabs as tab_records, widest_tab};
+ghost use Rattle.view.specs.Orders.{verb_t};
+ghost use Rattle.lines.proofs.Changing.{near_start};
+ghost use Rattle.lines.proofs.Steadiness.{tabs_steady, tabs_blind, tabs_shown_le};
 ghost use Rattle.linewise.specs.Widths.{tabs_bounded};
 ghost use Rattle.std.proofs.Common.{rules};
 
+use crate::kind::Lines;
 use crate::scan::Scan;
-use crate::walking::{last, raise, reach, seek};
+use crate::width::Width;
 use codes::code::{SPACE, TAB, is_row_end};
-use places::change::Change;
-use view::fault::Cause;
-use view::kind::Kind;
-use view::order::Order;
 use view::view::View;
 
-#[derive(Drop)]
-pub struct Tabs {
-    width: u32,
-}
+pub type Tabs = Lines<Stops>;
 
-// The same while the text below is walked through: a width that is taken. It is apart from the layer, since a view over
-// borrowed memory may hold no ghost field.
+// The distance between two stops.
 #[derive(Clone, Copy)]
-struct Stops {
+pub struct Stops {
     width: u32,
-    ghost stands: { (1 ≤ width) × (width ≤ 16) },
+    ghost stands: { (1 ≤ width) × (width ≤ widest_tab) },
 }
 
 impl Scan for Stops {
@@ -61,73 +55,64 @@ impl Scan for Stops {
     }
 }
 
-impl Kind for Tabs {
-    ghost records = { λ t. tab_records t.width };
+impl Width for Stops {
+    ghost width_of = { λ t. t.width };
 
-    ghost initial = { tab_records 8 };
+    ghost records_at = { tab_records };
+
+    ghost anew_from = { λ xs p. p };
+
+    ghost NARROWEST = { 1 };
+
+    ghost WIDEST = { widest_tab };
+
+    ghost OPENING = { 8 };
+
+    ghost FACTOR = { 16 };
+
+    ghost VERB = { verb_t };
+
+    ghost opens = { Prim.search rules };
+
+    ghost fits = { Prim.search rules };
 
     ghost grows = { Prim.search rules };
 
     ghost speaks = { Prim.search rules };
 
-    ghost begins = { Prim.search rules };
+    ghost refuses = { Prim.search rules };
 
-    fn new() -> Tabs {
-        Tabs { width: 8 }
+    ghost obeys = { Prim.search rules };
+
+    ghost changes = { Prim.search rules };
+
+    ghost stays = { Prim.search rules };
+
+    ghost raises = { Prim.search rules };
+
+    ghost shows = { Prim.search rules };
+
+    ghost shows_few = { λ t k x. tabs_shown_le t.width k x t.stands.1 t.stands.0 };
+
+    ghost anew_before = { Prim.search rules };
+
+    ghost anew_same = { λ t xs ys c k. near_start (tab_stops t.width) (tabs_steady t.width t.stands.0) (tabs_blind t.width) xs ys c.start c.old c.new k };
+
+    const NARROWEST: u32 = 1;
+
+    const WIDEST: u32 = 16;
+
+    const OPENING: u32 = 8;
+
+    const FACTOR: u32 = 16;
+
+    const VERB: char = 't';
+
+    fn at_width(width: u32) -> Stops {
+        Stops { width }
     }
 
-    fn grown(ceiling: u32) -> u64 {
-        16 * u64::from(ceiling)
-    }
-
-    fn has_verb(verb: char) -> bool {
-        verb == 't'
-    }
-
-    fn len<V: View>(&self, below: &V) -> u32 {
-        let scan = Stops { width: self.width };
-        reach(&scan, below, below.len())
-    }
-
-    fn code<V: View>(&self, below: &V, u: u32) -> u32 {
-        let scan = Stops { width: self.width };
-        seek(&scan, below, u).code
-    }
-
-    fn under<V: View>(&self, below: &V, u: u32) -> u32 {
-        let scan = Stops { width: self.width };
-        seek(&scan, below, u).under
-    }
-
-    fn first<V: View>(&self, below: &V, l: u32) -> u32 {
-        let scan = Stops { width: self.width };
-        reach(&scan, below, l)
-    }
-
-    fn last<V: View>(&self, below: &V, l: u32) -> u32 {
-        let scan = Stops { width: self.width };
-        last(&scan, below, l)
-    }
-
-    fn follow<V: View>(&mut self, below: &V, len: u32, change: Change) -> Change {
-        let scan = Stops { width: self.width };
-        raise(&scan, below, len, change.start, change)
-    }
-
-    fn order<V: View>(&mut self, below: &V, order: Order, w: &[u32]) -> Result<Change, Cause> {
-        match order.x {
-            1..=16 => {
-                let len = below.len();
-                let scan = Stops { width: self.width };
-                let old = reach(&scan, below, len);
-                let scan = Stops { width: order.x };
-                let new = reach(&scan, below, len);
-                *self = Tabs { width: order.x };
-                Ok(Change { start: 0, old, new })
-            }
-            _ => Err(Cause::OutOfRange {
-                value: u64::from(order.x),
-            }),
-        }
+    fn anew<V: View>(below: &V, place: u32) -> u32 {
+        place
     }
 }

@@ -1,34 +1,30 @@
-// A layer of soft wrap: a long line is cut into rows by soft breaks. Each question walks the text below up to the place
-// asked for, and twice over each row of it; a change walks all of it.
+// A layer of soft wrap: a long line is cut into rows by soft breaks. A walk goes twice over each row.
 ghost use Rattle.std.specs.Prelude.{◌≡◌, ◌≤◌};
+ghost use Rattle.lines.specs.Lines.{line_start as start_of_line};
 ghost use Rattle.lines.specs.Wraps.{row_length, soft_wrap};
-ghost use Rattle.view.specs.Layers.{wrap as wrap_records};
-ghost use Rattle.lines.proofs.Steadiness.{wrap_steady};
+ghost use Rattle.view.specs.Layers.{wrap as wrap_records, narrowest_wrap, widest_wrap};
+ghost use Rattle.view.specs.Orders.{verb_w};
+ghost use Rattle.lines.proofs.Changing.{line_start_same};
+ghost use Rattle.lines.proofs.Lining.{line_start_le};
+ghost use Rattle.lines.proofs.Steadiness.{wrap_steady, wrap_shown_le};
 ghost use Rattle.linewise.specs.Widths.{wrap_bounded};
 ghost use Rattle.std.proofs.Common.{rules};
 
 use crate::breaking::row_end;
+use crate::kind::Lines;
 use crate::scan::Scan;
-use crate::walking::{last, raise, reach, seek};
+use crate::width::Width;
 use codes::code::{SOFT_BREAK, is_row_end};
-use places::change::Change;
-use view::fault::Cause;
-use view::kind::Kind;
-use view::order::Order;
 use view::reading::line_start;
 use view::view::View;
 
-#[derive(Drop)]
-pub struct Wrap {
-    width: u32,
-}
+pub type Wrap = Lines<Breaks>;
 
-// The same while the text below is walked through: a width that is taken. It is apart from the layer, since a view over
-// borrowed memory may hold no ghost field.
+// How many codes a row has at most.
 #[derive(Clone, Copy)]
-struct Breaks {
+pub struct Breaks {
     width: u32,
-    ghost stands: { (2 ≤ width) × (width ≤ 1024) },
+    ghost stands: { (narrowest_wrap ≤ width) × (width ≤ widest_wrap) },
 }
 
 impl Scan for Breaks {
@@ -66,74 +62,64 @@ impl Scan for Breaks {
     }
 }
 
-impl Kind for Wrap {
-    ghost records = { λ t. wrap_records t.width };
+impl Width for Breaks {
+    ghost width_of = { λ t. t.width };
 
-    ghost initial = { wrap_records 80 };
+    ghost records_at = { wrap_records };
+
+    ghost anew_from = { start_of_line };
+
+    ghost NARROWEST = { narrowest_wrap };
+
+    ghost WIDEST = { widest_wrap };
+
+    ghost OPENING = { 80 };
+
+    ghost FACTOR = { 2 };
+
+    ghost VERB = { verb_w };
+
+    ghost opens = { Prim.search rules };
+
+    ghost fits = { Prim.search rules };
 
     ghost grows = { Prim.search rules };
 
     ghost speaks = { Prim.search rules };
 
-    ghost begins = { Prim.search rules };
+    ghost refuses = { Prim.search rules };
 
-    fn new() -> Wrap {
-        Wrap { width: 80 }
+    ghost obeys = { Prim.search rules };
+
+    ghost changes = { Prim.search rules };
+
+    ghost stays = { Prim.search rules };
+
+    ghost raises = { Prim.search rules };
+
+    ghost shows = { Prim.search rules };
+
+    ghost shows_few = { λ t. wrap_shown_le (row_length t.width) };
+
+    ghost anew_before = { line_start_le };
+
+    ghost anew_same = { λ t xs ys c k. line_start_same (soft_wrap (row_length t.width)) (wrap_steady (row_length t.width)) xs ys c.start c.old c.new k };
+
+    const NARROWEST: u32 = 2;
+
+    const WIDEST: u32 = 1024;
+
+    const OPENING: u32 = 80;
+
+    const FACTOR: u32 = 2;
+
+    const VERB: char = 'w';
+
+    fn at_width(width: u32) -> Breaks {
+        Breaks { width }
     }
 
-    fn grown(ceiling: u32) -> u64 {
-        2 * u64::from(ceiling)
-    }
-
-    fn has_verb(verb: char) -> bool {
-        verb == 'w'
-    }
-
-    fn len<V: View>(&self, below: &V) -> u32 {
-        let scan = Breaks { width: self.width };
-        reach(&scan, below, below.len())
-    }
-
-    fn code<V: View>(&self, below: &V, u: u32) -> u32 {
-        let scan = Breaks { width: self.width };
-        seek(&scan, below, u).code
-    }
-
-    fn under<V: View>(&self, below: &V, u: u32) -> u32 {
-        let scan = Breaks { width: self.width };
-        seek(&scan, below, u).under
-    }
-
-    fn first<V: View>(&self, below: &V, l: u32) -> u32 {
-        let scan = Breaks { width: self.width };
-        reach(&scan, below, l)
-    }
-
-    fn last<V: View>(&self, below: &V, l: u32) -> u32 {
-        let scan = Breaks { width: self.width };
-        last(&scan, below, l)
-    }
-
-    fn follow<V: View>(&mut self, below: &V, len: u32, change: Change) -> Change {
-        let from = line_start(below, change.start);
-        let scan = Breaks { width: self.width };
-        raise(&scan, below, len, from, change)
-    }
-
-    fn order<V: View>(&mut self, below: &V, order: Order, w: &[u32]) -> Result<Change, Cause> {
-        match order.x {
-            2..=1024 => {
-                let len = below.len();
-                let scan = Breaks { width: self.width };
-                let old = reach(&scan, below, len);
-                let scan = Breaks { width: order.x };
-                let new = reach(&scan, below, len);
-                *self = Wrap { width: order.x };
-                Ok(Change { start: 0, old, new })
-            }
-            _ => Err(Cause::OutOfRange {
-                value: u64::from(order.x),
-            }),
-        }
+    fn anew<V: View>(below: &V, place: u32) -> u32 {
+        line_start(below, place)
     }
 }

@@ -1,6 +1,0 @@
-use Rattle.view.specs.Seen.{text_at}
-use Rattle.linewise.proofs.Walks.{Walked}
-use Rattle.linewise.proofs.walking.reach.Given as goal
-
-abbrev pub invariant-loop-i : goal.invariant-loop-i
-invariant-loop-i g l = Walked (g.S.Scan.transducer l.scan) (text_at g.V.View l.below) l.i l.reach l.state
