@@ -16,7 +16,7 @@ use Rattle.layer.proofs.Obeying.{obeyed_kept, obeyed_fit}
 use Rattle.layer.specs.Stacking.{text_awake, same_awake, same_ceiling, obeyed_growth}
 use Rattle.layer.specs.Carrying.{Lawful, over, when_made}
 
-module _ {V S : Type 0} (e : Eyes V S) (lawful : Lawful e) (v : V) (r : Records) (len top : ℕ) (up : Bool) (s : Sound e v r len top up) (h : up ≡ true)
+module _ {V S : Type 0} (e : Eyes V S) (v : V) (lawful : Lawful e v) (r : Records) (len top : ℕ) (up : Bool) (s : Sound e v r len top up) (h : up ≡ true)
     (o : Order) (w : List ℕ) (q : Records)
     (taken : own_refusal r (length (e.doc v)) (first_at e v o.x) (first_at e v o.y) o w ≡ None)
     (is : q ≡ obeyed r (first_at e v o.x) (first_at e v o.y) o w) where
@@ -35,7 +35,7 @@ module _ {V S : Type 0} (e : Eyes V S) (lawful : Lawful e) (v : V) (r : Records)
   still_awake = same_awake e.most r q (e.stack v) (e.stack v) same_kind refl
 
   pub obeyed_over : Over e v q
-  obeyed_over = over e lawful v q (still_awake ∙ sym s.knows ∙ h) fit
+  obeyed_over = over e v lawful q (still_awake ∙ sym s.knows ∙ h) fit
 
   text_then : text_of e.most (q ∷ e.stack v) (e.doc v) ≡ shown q (text_at e v)
   text_then = text_awake e.most q (e.stack v) (e.doc v) (still_awake ∙ sym s.knows ∙ h)

@@ -15,10 +15,10 @@ use Rattle.layer.specs.Sound.{Sound}
 use Rattle.layer.specs.Fitting.{follow_fit, follow_kept, follow_growth, growth_rises, grown_length}
 use Rattle.layer.specs.Stacking.{stack_means, text_awake, text_asleep, text_le, ceiling_le, same_awake, same_ceiling}
 
--- what is told of every view of a type by its laws
-pub record Lawful {V S : Type 0} (e : Eyes V S) : Type 0 where
-  pub fits : (v : V) → AllFit e.most (e.stack v) (e.doc v)
-  pub small : (v : V) → (length (e.doc v) + e.spare_of v ≤ e.most) × (e.most ≤ 1073741824)
+-- what is told of a view by its laws
+pub record Lawful {V S : Type 0} (e : Eyes V S) (v : V) : Type 0 where
+  pub fits : AllFit e.most (e.stack v) (e.doc v)
+  pub small : (length (e.doc v) + e.spare_of v ≤ e.most) × (e.most ≤ 1073741824)
 
 -- a layer that had the records r over v, and has q over b: it is sound, and went as the stack below it, now `lower`, asks
 pub record Carried {V S : Type 0} (e : Eyes V S) (v : V) (r : Records) (b : V) (q : Records) (len top : ℕ) (up : Bool) (lower : Changed) (own : Change) : Type 0 where
@@ -43,17 +43,17 @@ still_countable (folds ms) c n h = tt
 still_countable (tabs w) c n h = h
 still_countable (wrap w) c n h = h
 
-module _ {V S : Type 0} (e : Eyes V S) (lawful : Lawful e) (v : V) where
+module _ {V S : Type 0} (e : Eyes V S) (v : V) (lawful : Lawful e v) where
   pub text_small : length (text_at e v) ≤ 1073741824
   text_small =
-      let t = text_le e.most (e.stack v) (e.doc v) (lawful.fits v) (omega (arith, (lawful.small v).0)) in
-      let c = ceiling_le e.most (e.stack v) (lawful.small v).1 in
+      let t = text_le e.most (e.stack v) (e.doc v) lawful.fits (omega (arith, lawful.small.0)) in
+      let c = ceiling_le e.most (e.stack v) lawful.small.1 in
       omega arith
 
   -- a layer that is awake over it, with records that fit
   pub over : (r : Records) → awake e.most r (e.stack v) ≡ true → Fit r (length (text_at e v)) → Over e v r
   over r up fit =
-      let t = text_le e.most (e.stack v) (e.doc v) (lawful.fits v) (omega (arith, (lawful.small v).0)) in
+      let t = text_le e.most (e.stack v) (e.doc v) lawful.fits (omega (arith, lawful.small.0)) in
       let g = grown_length r (text_at e v) (ceiling_of e.most (e.stack v)) fit t in
       let h : growth r (ceiling_of e.most (e.stack v)) ≤ 1073741824 = grind (arith, nat_tests) in
       record { fit = fit; low = text_small; high = omega arith; room = grown_countable r _ (omega (arith, growth_rises r _ _ t)) }
@@ -62,18 +62,18 @@ module _ {V S : Type 0} (e : Eyes V S) (lawful : Lawful e) (v : V) where
   pub sound_fits : (r : Records) (len top : ℕ) (up : Bool) → Sound e v r len top up → AllFit e.most (r ∷ e.stack v) (e.doc v)
   sound_fits r len top up s =
       let P : Bool → Type 0 = λ b. MatchBool b (Fit r (length (text_at e v))) (Unit {0}) in
-      ((lawful.fits v), subst P s.knows s.fits)
+      (lawful.fits, subst P s.knows s.fits)
 
   -- so a sound layer over it means what its records and those below say
   pub sound_means : (r : Records) (len top : ℕ) (up : Bool) → Sound e v r len top up → Means e.most (r ∷ e.stack v) (e.doc v)
   sound_means r len top up s =
-      stack_means e.most (r ∷ e.stack v) (e.doc v) (sound_fits r len top up s) (omega (arith, (lawful.small v).0)) (lawful.small v).1
+      stack_means e.most (r ∷ e.stack v) (e.doc v) (sound_fits r len top up s) (omega (arith, lawful.small.0)) lawful.small.1
 
   pub sound_over : (r : Records) (len top : ℕ) (up : Bool) → Sound e v r len top up → up ≡ true → Over e v r
   sound_over r len top up s h = over r (sym s.knows ∙ h) (when_true _ _ h s.fits)
 
 -- the view below went from v to v' by the change c, which a sound layer with the records r follows
-module _ {V S : Type 0} (e : Eyes V S) (lawful : Lawful e) (v v' : V) (r : Records) (len top : ℕ) (up : Bool)
+module _ {V S : Type 0} (e : Eyes V S) (v v' : V) (lawful : Lawful e v) (lawful' : Lawful e v') (r : Records) (len top : ℕ) (up : Bool)
     (s : Sound e v r len top up) (c : Change) (kept : Kept (text_at e v) (text_at e v') c) (low : ceiling_of e.most (e.stack v') ≡ ceiling_of e.most (e.stack v)) where
   before_is : length (text_at e v') + c.old - c.new ≡ length (text_at e v)
   before_is = let h = keeps_length (text_at e v) (text_at e v') c.start c.old c.new kept in omega arith
@@ -92,16 +92,16 @@ module _ {V S : Type 0} (e : Eyes V S) (lawful : Lawful e) (v v' : V) (r : Recor
         new_fits = kept.new_fits;
         old_fits = omega (arith, kept.old_fits);
         fit = subst P (sym before_is) (when_true _ _ h s.fits);
-        low = text_small e lawful v';
-        was = omega (arith, text_small e lawful v);
-        room = still_countable r c _ (over e lawful v' (follow r c) (follow_awake h) (carry_fit h)).room;
+        low = text_small e v' lawful';
+        was = omega (arith, text_small e v lawful);
+        room = still_countable r c _ (over e v' lawful' (follow r c) (follow_awake h) (carry_fit h)).room;
       }
 
   pub behind_when : MatchBool up (Behind e v' r c) (Unit {0})
   behind_when = when_made up _ _ carry_behind (λ _. tt)
 
   pub over_when : MatchBool up (Over e v' (follow r c)) (Unit {0})
-  over_when = when_made up _ _ (λ h. over e lawful v' (follow r c) (follow_awake h) (carry_fit h)) (λ _. tt)
+  over_when = when_made up _ _ (λ h. over e v' lawful' (follow r c) (follow_awake h) (carry_fit h)) (λ _. tt)
 
   -- what the layer then keeps, and the change that it answers
   module _ (q : Records) (len' : ℕ) (own : Change)

@@ -84,7 +84,7 @@ impl<V: View, K: Kind> View for Layer<V, K> {
     ghost fits = { Prim.search rules };
 
     ghost means = { λ l.
-        sound_means V.View.own (record { fits = V.View.fits; small = V.View.small }) l.below (K.Kind.records l.kind) l.len l.ceiling l.awake l.sound };
+        sound_means V.View.own l.below (record { fits = V.View.fits l.below; small = V.View.small l.below }) (K.Kind.records l.kind) l.len l.ceiling l.awake l.sound };
 
     ghost small = { Prim.search rules };
 

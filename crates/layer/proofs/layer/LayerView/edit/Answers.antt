@@ -35,11 +35,11 @@ carry-requires g c =
     let s = c.args.self.now.sound in
     let own = c.in_ok-change.change in
     let by : Change = record { start = c.args.a; old = c.args.r; new = length c.args.w.now } in
-    let law : Lawful e = record { fits = g.met.V.View.fits; small = g.met.V.View.small } in
+    let law : (z : g.row.V.Denot) → Lawful g.V.View z = λ z. record { fits = g.met.V.View.fits z; small = g.met.V.View.small z } in
     let P : Result Change ViewFault → Type 0 = λ x. Edits e.most e.doc e.spare_of e.stack v v' e.spare_after c.args.a c.args.r c.args.w.now x in
     let does = subst P (mapped_ok deeper _ (λ e z k. search rules) c.edit.result c.map_err.result own c.map_err.ensures.cases c.in_ok-change.was) c.edit.ensures in
     let low : ceiling_of e.most (e.stack v') ≡ ceiling_of e.most (e.stack v) = ap (ceiling_of e.most) does.3.0 ∙ edit_ceiling e.most (e.stack v) (e.doc v) (e.doc v') by in
-    record { behind = behind_when e law v v' r _ _ _ s own does.3.2 low; over = over_when e law v v' r _ _ _ s own does.3.2 low }
+    record { behind = behind_when e v v' (law v) (law v') r _ _ _ s own does.3.2 low; over = over_when e v v' (law v) (law v') r _ _ _ s own does.3.2 low }
 
 pub invariant_of-self-2 : goal.invariant_of-self-2
 invariant_of-self-2 g c =
@@ -50,11 +50,11 @@ invariant_of-self-2 g c =
     let s = c.args.self.now.sound in
     let own = c.in_ok-change.change in
     let by : Change = record { start = c.args.a; old = c.args.r; new = length c.args.w.now } in
-    let law : Lawful e = record { fits = g.met.V.View.fits; small = g.met.V.View.small } in
+    let law : (z : g.row.V.Denot) → Lawful g.V.View z = λ z. record { fits = g.met.V.View.fits z; small = g.met.V.View.small z } in
     let P : Result Change ViewFault → Type 0 = λ x. Edits e.most e.doc e.spare_of e.stack v v' e.spare_after c.args.a c.args.r c.args.w.now x in
     let does = subst P (mapped_ok deeper _ (λ e z k. search rules) c.edit.result c.map_err.result own c.map_err.ensures.cases c.in_ok-change.was) c.edit.ensures in
     let low : ceiling_of e.most (e.stack v') ≡ ceiling_of e.most (e.stack v) = ap (ceiling_of e.most) does.3.0 ∙ edit_ceiling e.most (e.stack v) (e.doc v) (e.doc v') by in
-    let went = carried_whole e law v v' r _ _ _ s own does.3.2 low (g.K.Kind.records c.carry.new.kind) c.carry.new.len c.carry.result c.carry.ensures
+    let went = carried_whole e v v' (law v) (law v') r _ _ _ s own does.3.2 low (g.K.Kind.records c.carry.new.kind) c.carry.new.len c.carry.result c.carry.ensures
     (after_edit e.most (e.stack v) (e.doc v) (e.doc v') by) does.3.1 does.3.0 in
     record { sound = went.sound }
 
@@ -67,11 +67,11 @@ returns g c =
     let s = c.args.self.now.sound in
     let own = c.in_ok-change.change in
     let by : Change = record { start = c.args.a; old = c.args.r; new = length c.args.w.now } in
-    let law : Lawful e = record { fits = g.met.V.View.fits; small = g.met.V.View.small } in
+    let law : (z : g.row.V.Denot) → Lawful g.V.View z = λ z. record { fits = g.met.V.View.fits z; small = g.met.V.View.small z } in
     let P : Result Change ViewFault → Type 0 = λ x. Edits e.most e.doc e.spare_of e.stack v v' e.spare_after c.args.a c.args.r c.args.w.now x in
     let does = subst P (mapped_ok deeper _ (λ e z k. search rules) c.edit.result c.map_err.result own c.map_err.ensures.cases c.in_ok-change.was) c.edit.ensures in
     let low : ceiling_of e.most (e.stack v') ≡ ceiling_of e.most (e.stack v) = ap (ceiling_of e.most) does.3.0 ∙ edit_ceiling e.most (e.stack v) (e.doc v) (e.doc v') by in
-    let went = carried_whole e law v v' r _ _ _ s own does.3.2 low (g.K.Kind.records c.carry.new.kind) c.carry.new.len c.carry.result c.carry.ensures
+    let went = carried_whole e v v' (law v) (law v') r _ _ _ s own does.3.2 low (g.K.Kind.records c.carry.new.kind) c.carry.new.len c.carry.result c.carry.ensures
     (after_edit e.most (e.stack v) (e.doc v) (e.doc v') by) does.3.1 does.3.0 in (
       mapped_none (suc (length (e.stack v))) (suc (suc (length (e.stack v)))) (edit_refusal (length (e.doc v)) (e.spare_of v) c.args.a c.args.r c.args.w.now) does.0,
       does.1,

@@ -11,10 +11,10 @@ first-requires-2 g c =
     let r = g.K.Kind.records c.args.self.now.kind in
     let e = g.V.View in
     let s = c.args.self.now.sound in
-    let law : Lawful g.V.View = record { fits = g.met.V.View.fits; small = g.met.V.View.small } in
+    let law : (z : g.row.V.Denot) → Lawful g.V.View z = λ z. record { fits = g.met.V.View.fits z; small = g.met.V.View.small z } in
     let answer = c.in_ok-l.ensures in
-    let inside = (stack_finds e.most (e.stack v) (e.doc v) (law.fits v)).first_in c.args.p answer.0 in
-    record { over = sound_over e law v r _ _ _ s c.if-not-self.false; within = omega (arith, answer.1) }
+    let inside = (stack_finds e.most (e.stack v) (e.doc v) (law v).fits).first_in c.args.p answer.0 in
+    record { over = sound_over e v (law v) r _ _ _ s c.if-not-self.false; within = omega (arith, answer.1) }
 
 pub returns : goal.returns
 returns g c =
@@ -22,9 +22,9 @@ returns g c =
     let r = g.K.Kind.records c.args.self.now.kind in
     let e = g.V.View in
     let s = c.args.self.now.sound in
-    let law : Lawful g.V.View = record { fits = g.met.V.View.fits; small = g.met.V.View.small } in
+    let law : (z : g.row.V.Denot) → Lawful g.V.View z = λ z. record { fits = g.met.V.View.fits z; small = g.met.V.View.small z } in
     let answer = c.in_ok-l.ensures in (
       answer.0,
       c.first-2.ensures ∙ ap (first r (text_at e v)) answer.1
-          ∙ first_awake e.most r (e.stack v) (e.doc v) (sound_fits e law v r _ _ _ s) c.args.p answer.0 (sym s.knows ∙ c.if-not-self.false),
+          ∙ first_awake e.most r (e.stack v) (e.doc v) (sound_fits e v (law v) r _ _ _ s) c.args.p answer.0 (sym s.knows ∙ c.if-not-self.false),
     )

@@ -53,11 +53,11 @@ carry-requires g c =
     let o = c.args.order in
     let w = c.args.w.now in
     let own = c.in_ok-change.change in
-    let law : Lawful e = record { fits = g.met.V.View.fits; small = g.met.V.View.small } in
+    let law : (z : g.row.V.Denot) → Lawful g.V.View z = λ z. record { fits = g.met.V.View.fits z; small = g.met.V.View.small z } in
     let P : Result Change ViewFault → Type 0 = λ x. Obeys e.most e.doc e.spare_of e.stack v v' k o w x in
     let does = subst P (mapped_ok (λ f. meant_for c.args.k (deeper f)) _ (λ f z i. search rules) c.order.result c.map_err.result own c.map_err.ensures.cases c.in_ok-change.was) c.order.ensures in
     let low : ceiling_of e.most (e.stack v') ≡ ceiling_of e.most (e.stack v) = ap (ceiling_of e.most) does.3.0 ∙ order_ceiling e.most (e.stack v) (e.doc v) k o w in
-    record { behind = behind_when e law v v' r _ _ _ s own does.3.2 low; over = over_when e law v v' r _ _ _ s own does.3.2 low }
+    record { behind = behind_when e v v' (law v) (law v') r _ _ _ s own does.3.2 low; over = over_when e v v' (law v) (law v') r _ _ _ s own does.3.2 low }
 
 pub invariant_of-self-then-k-gt0 : goal.invariant_of-self-then-k-gt0
 invariant_of-self-then-k-gt0 g c =
@@ -70,12 +70,12 @@ invariant_of-self-then-k-gt0 g c =
     let o = c.args.order in
     let w = c.args.w.now in
     let own = c.in_ok-change.change in
-    let law : Lawful e = record { fits = g.met.V.View.fits; small = g.met.V.View.small } in
+    let law : (z : g.row.V.Denot) → Lawful g.V.View z = λ z. record { fits = g.met.V.View.fits z; small = g.met.V.View.small z } in
     let P : Result Change ViewFault → Type 0 = λ x. Obeys e.most e.doc e.spare_of e.stack v v' k o w x in
     let does = subst P (mapped_ok (λ f. meant_for c.args.k (deeper f)) _ (λ f z i. search rules) c.order.result c.map_err.result own c.map_err.ensures.cases c.in_ok-change.was) c.order.ensures in
     let low : ceiling_of e.most (e.stack v') ≡ ceiling_of e.most (e.stack v) = ap (ceiling_of e.most) does.3.0 ∙ order_ceiling e.most (e.stack v) (e.doc v) k o w in
     let lower = after_order e.most (e.stack v) (e.doc v) k o w in
-    let went = carried_whole e law v v' r _ _ _ s own does.3.2 low (g.K.Kind.records c.carry.new.kind) c.carry.new.len c.carry.result c.carry.ensures lower does.3.1 does.3.0 in
+    let went = carried_whole e v v' (law v) (law v') r _ _ _ s own does.3.2 low (g.K.Kind.records c.carry.new.kind) c.carry.new.len c.carry.result c.carry.ensures lower does.3.1 does.3.0 in
     record { sound = went.sound }
 
 pub returns-then-k-gt0 : goal.returns-then-k-gt0
@@ -90,12 +90,12 @@ returns-then-k-gt0 g c =
     let o = c.args.order in
     let w = c.args.w.now in
     let own = c.in_ok-change.change in
-    let law : Lawful e = record { fits = g.met.V.View.fits; small = g.met.V.View.small } in
+    let law : (z : g.row.V.Denot) → Lawful g.V.View z = λ z. record { fits = g.met.V.View.fits z; small = g.met.V.View.small z } in
     let P : Result Change ViewFault → Type 0 = λ x. Obeys e.most e.doc e.spare_of e.stack v v' k o w x in
     let does = subst P (mapped_ok (λ f. meant_for c.args.k (deeper f)) _ (λ f z i. search rules) c.order.result c.map_err.result own c.map_err.ensures.cases c.in_ok-change.was) c.order.ensures in
     let low : ceiling_of e.most (e.stack v') ≡ ceiling_of e.most (e.stack v) = ap (ceiling_of e.most) does.3.0 ∙ order_ceiling e.most (e.stack v) (e.doc v) k o w in
     let lower = after_order e.most (e.stack v) (e.doc v) k o w in
-    let went = carried_whole e law v v' r _ _ _ s own does.3.2 low (g.K.Kind.records c.carry.new.kind) c.carry.new.len c.carry.result c.carry.ensures lower does.3.1 does.3.0 in (
+    let went = carried_whole e v v' (law v) (law v') r _ _ _ s own does.3.2 low (g.K.Kind.records c.carry.new.kind) c.carry.new.len c.carry.result c.carry.ensures lower does.3.1 does.3.0 in (
       ap (λ (n : ℕ). order_refusal_of e.most (r ∷ e.stack v) (e.doc v) n o w) (sym up) ∙ deeper_none e.most r (e.stack v) (e.doc v) k o w does.0,
       does.1,
       does.2,
@@ -115,8 +115,8 @@ at_zero most r rs d k o w h = let z : k ≡ 0 = omega arith in ap (λ (n : ℕ).
 pub order-requires-2 : goal.order-requires-2
 order-requires-2 g c =
     let v = c.args.self.now.below in
-    let law : Lawful g.V.View = record { fits = g.met.V.View.fits; small = g.met.V.View.small } in
-    record { over = sound_over g.V.View law v (g.K.Kind.records c.args.self.now.kind) _ _ _ c.args.self.now.sound c.if-not-self.false; own = sym c.has_verb.ensures ∙ c.if-not-has_verb.false }
+    let law : (z : g.row.V.Denot) → Lawful g.V.View z = λ z. record { fits = g.met.V.View.fits z; small = g.met.V.View.small z } in
+    record { over = sound_over g.V.View v (law v) (g.K.Kind.records c.args.self.now.kind) _ _ _ c.args.self.now.sound c.if-not-self.false; own = sym c.has_verb.ensures ∙ c.if-not-has_verb.false }
 
 pub returns-in_err-change-2 : goal.returns-in_err-change-2
 returns-in_err-change-2 g c =
@@ -146,11 +146,11 @@ len-self-requires g c =
     let s = c.args.self.now.sound in
     let o = c.args.order in
     let w = c.args.w.now in
-    let law : Lawful e = record { fits = g.met.V.View.fits; small = g.met.V.View.small } in
+    let law : (z : g.row.V.Denot) → Lawful g.V.View z = λ z. record { fits = g.met.V.View.fits z; small = g.met.V.View.small z } in
     let q = g.K.Kind.records c.order-2.new.self in
     let P : Result Change Cause → Type 0 = λ x. Carries r q c.args.self.now.kind c.order-2.new.self (text_at e v) (length (e.doc v)) (first_at e v o.x) (first_at e v o.y) o w x in
     let does = subst P (mapped_ok (λ f. record { cause = f; layer = 0 }) _ (λ f z i. search rules) c.order-2.result c.map_err-2.result c.in_ok-change-2.change c.map_err-2.ensures.cases c.in_ok-change-2.was) c.order-2.ensures in
-    obeyed_over e law v r _ _ _ s c.if-not-self.false o w q does.0 does.1
+    obeyed_over e v (law v) r _ _ _ s c.if-not-self.false o w q does.0 does.1
 
 pub invariant_of-self-2 : goal.invariant_of-self-2
 invariant_of-self-2 g c =
@@ -160,11 +160,11 @@ invariant_of-self-2 g c =
     let s = c.args.self.now.sound in
     let o = c.args.order in
     let w = c.args.w.now in
-    let law : Lawful e = record { fits = g.met.V.View.fits; small = g.met.V.View.small } in
+    let law : (z : g.row.V.Denot) → Lawful g.V.View z = λ z. record { fits = g.met.V.View.fits z; small = g.met.V.View.small z } in
     let q = g.K.Kind.records c.order-2.new.self in
     let P : Result Change Cause → Type 0 = λ x. Carries r q c.args.self.now.kind c.order-2.new.self (text_at e v) (length (e.doc v)) (first_at e v o.x) (first_at e v o.y) o w x in
     let does = subst P (mapped_ok (λ f. record { cause = f; layer = 0 }) _ (λ f z i. search rules) c.order-2.result c.map_err-2.result c.in_ok-change-2.change c.map_err-2.ensures.cases c.in_ok-change-2.was) c.order-2.ensures in
-    record { sound = obeyed_sound e law v r _ _ _ s c.if-not-self.false o w q does.0 does.1 c.len-self.result c.len-self.ensures }
+    record { sound = obeyed_sound e v (law v) r _ _ _ s c.if-not-self.false o w q does.0 does.1 c.len-self.result c.len-self.ensures }
 
 pub returns : goal.returns
 returns g c =
@@ -174,7 +174,7 @@ returns g c =
     let s = c.args.self.now.sound in
     let o = c.args.order in
     let w = c.args.w.now in
-    let law : Lawful e = record { fits = g.met.V.View.fits; small = g.met.V.View.small } in
+    let law : (z : g.row.V.Denot) → Lawful g.V.View z = λ z. record { fits = g.met.V.View.fits z; small = g.met.V.View.small z } in
     let q = g.K.Kind.records c.order-2.new.self in
     let P : Result Change Cause → Type 0 = λ x. Carries r q c.args.self.now.kind c.order-2.new.self (text_at e v) (length (e.doc v)) (first_at e v o.x) (first_at e v o.y) o w x in
     let does = subst P (mapped_ok (λ f. record { cause = f; layer = 0 }) _ (λ f z i. search rules) c.order-2.result c.map_err-2.result c.in_ok-change-2.change c.map_err-2.ensures.cases c.in_ok-change-2.was) c.order-2.ensures in
@@ -187,6 +187,6 @@ returns g c =
       (
         ap (λ (z : Records). z ∷ e.stack v) does.1 ∙ ap (λ (n : ℕ). (after_order e.most (r ∷ e.stack v) (e.doc v) n o w).stack) zero_k,
         does.2 ∙ ap (λ (n : ℕ). (after_order e.most (r ∷ e.stack v) (e.doc v) n o w).change) zero_k,
-        obeyed_text e law v r _ _ _ s c.if-not-self.false o w q does.0 does.1 c.in_ok-change-2.change does.2,
+        obeyed_text e v (law v) r _ _ _ s c.if-not-self.false o w q does.0 does.1 c.in_ok-change-2.change does.2,
       ),
     )

@@ -14,9 +14,9 @@ under-l-requires g c =
     let v = c.args.self.now.below in
     let r = g.K.Kind.records c.args.self.now.kind in
     let s = c.args.self.now.sound in
-    let law : Lawful g.V.View = record { fits = g.met.V.View.fits; small = g.met.V.View.small } in
+    let law : (z : g.row.V.Denot) → Lawful g.V.View z = λ z. record { fits = g.met.V.View.fits z; small = g.met.V.View.small z } in
     let t = ap length (text_awake g.V.View.most r (g.V.View.stack v) (g.V.View.doc v) (sym s.knows ∙ c.if-not-self.false)) in
-    record { over = sound_over g.V.View law v r _ _ _ s c.if-not-self.false; within = omega (arith, s.sized, c.if-u-self.false) }
+    record { over = sound_over g.V.View v (law v) r _ _ _ s c.if-not-self.false; within = omega (arith, s.sized, c.if-u-self.false) }
 
 pub returns : goal.returns
 returns g c =
@@ -25,9 +25,9 @@ returns g c =
     let e = g.V.View in
     let s = c.args.self.now.sound in
     let up = sym s.knows ∙ c.if-not-self.false in
-    let law : Lawful g.V.View = record { fits = g.met.V.View.fits; small = g.met.V.View.small } in
+    let law : (z : g.row.V.Denot) → Lawful g.V.View z = λ z. record { fits = g.met.V.View.fits z; small = g.met.V.View.small z } in
     let t = ap length (text_awake e.most r (e.stack v) (e.doc v) up) in
-    let over = sound_over e law v r _ _ _ s c.if-not-self.false in
+    let over = sound_over e v (law v) r _ _ _ s c.if-not-self.false in
     let inside = under_in (fit_finds r (text_at e v) over.fit) c.args.u (omega (arith, s.sized, c.if-u-self.false)) in
     place_through (under r (text_at e v)) (under_of e.most (e.stack v) (e.doc v)) (under_of e.most (r ∷ e.stack v) (e.doc v)) (length (text_of e.most (r ∷ e.stack v) (e.doc v))) (length (text_at e v)) _ c.args.u _ (omega (arith, s.sized, c.if-u-self.false)) inside c.under-l.ensures
     (under_awake e.most r (e.stack v) (e.doc v) up c.args.u) c.under-2.ensures
