@@ -59,6 +59,7 @@ pub trait Buffer {
     // Puts `w` in the place of the `r` codes at `a`. Refused, in this order, with 1 and `a` where the document does
     // not reach so far, 2 and `a` where nothing is taken out or put in, 3 and its index where `w` has a code that no
     // document holds, 4 and the spare where `w` is longer than that; a refusal changes nothing, in the cells neither.
+    // stays: three arguments, as a splice has them everywhere; a struct of them would only be made to be taken apart
     fn edit(&mut self, a: u32, r: u32, w: &[u32]) -> Result<(), BufferFault>
         ensures does { Edits doc spare_of spare_after self.old self.new a r w.now result }
         ensures stays { memory self.new ≡ memory self.old };

@@ -27,6 +27,7 @@ pub enum BufferFault {
 
 // What a host is told of a refused call: the number of the cause, how many layers below the one that was called it
 // arose, and a spot whose meaning goes with the number.
+// stays: numbers, since these are what the rules have a host told; inside the library a cause is a case of an enum
 #[derive(Clone, Copy, PartialEq, Eq, Debug, Error)]
 #[error("number {number}, layer {layer}, spot {spot}")]
 pub struct Refusal {
