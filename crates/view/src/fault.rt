@@ -64,6 +64,7 @@ impl From<BufferFault> for ViewFault {
 
 impl Cause {
     // A cause that arose at the view that was called. Constant time.
+    // stays: no From, since `into` would not say at which layer
     pub fn here(self) -> ViewFault
         ensures { result ≡ record { cause = self; layer = 0 } }
     {
