@@ -11,6 +11,7 @@ pub trait Measured {
 }
 
 // A record of a list, and the sum of the measures before it.
+// stays: no Option, since where no record passes the number of all and their sum are the answer
 #[derive(Clone, Copy, PartialEq, Eq, Debug)]
 pub struct Passing {
     pub index: usize,
