@@ -8,7 +8,7 @@ use Rattle.view.specs.declared.order.Order.{Order}
 use Rattle.view.specs.Layers.{Records, shown, growth, Fit}
 use Rattle.view.specs.Orders.{own_refusal, obeyed, obeyed_change}
 use Rattle.view.specs.Stacks.{awake, text_of, under_of}
-use Rattle.view.specs.declared.view.View.{Ghosts as Eyes}
+use Rattle.view.specs.declared.view.Meaning.{Ghosts as Eyes}
 use Rattle.view.specs.Seen.{text_at, first_at}
 use Rattle.view.specs.Kinds.{Over}
 use Rattle.layer.specs.Sound.{Sound}
@@ -16,7 +16,7 @@ use Rattle.layer.proofs.Obeying.{obeyed_kept, obeyed_fit}
 use Rattle.layer.specs.Stacking.{text_awake, same_awake, same_ceiling, obeyed_growth}
 use Rattle.layer.specs.Carrying.{Lawful, over, when_made}
 
-module _ {V S : Type 0} (e : Eyes V S) (v : V) (lawful : Lawful e v) (r : Records) (len top : ℕ) (up : Bool) (s : Sound e v r len top up) (h : up ≡ true)
+module _ {V : Type 0} (e : Eyes V) (v : V) (lawful : Lawful e v) (r : Records) (len top : ℕ) (up : Bool) (s : Sound e v r len top up) (h : up ≡ true)
     (o : Order) (w : List ℕ) (q : Records)
     (taken : own_refusal r (length (e.doc v)) (first_at e v o.x) (first_at e v o.y) o w ≡ None)
     (is : q ≡ obeyed r (first_at e v o.x) (first_at e v o.y) o w) where

@@ -8,7 +8,7 @@ use Rattle.places.specs.Changes.{Kept}
 use Rattle.places.proofs.Keeping.{keeps_length}
 use Rattle.view.specs.Layers.{Records, hints, folds, tabs, wrap, shown, growth, Fit, follow, raised}
 use Rattle.view.specs.Stacks.{ceiling_of, awake, text_of, AllFit, Means, Changed, carried}
-use Rattle.view.specs.declared.view.View.{Ghosts as Eyes}
+use Rattle.view.specs.declared.view.Meaning.{Ghosts as Eyes}
 use Rattle.view.specs.Seen.{text_at}
 use Rattle.view.specs.Kinds.{Countable, Over, Behind, Raises}
 use Rattle.layer.specs.Sound.{Sound}
@@ -16,12 +16,12 @@ use Rattle.layer.specs.Fitting.{follow_fit, follow_kept, follow_growth, growth_r
 use Rattle.layer.specs.Stacking.{stack_means, text_awake, text_asleep, text_le, ceiling_le, same_awake, same_ceiling}
 
 -- what is told of a view by its laws
-pub record Lawful {V S : Type 0} (e : Eyes V S) (v : V) : Type 0 where
+pub record Lawful {V : Type 0} (e : Eyes V) (v : V) : Type 0 where
   pub fits : AllFit e.most (e.stack v) (e.doc v)
   pub small : (length (e.doc v) + e.spare_of v ≤ e.most) × (e.most ≤ 1073741824)
 
 -- a layer that had the records r over v, and has q over b: it is sound, and went as the stack below it, now `lower`, asks
-pub record Carried {V S : Type 0} (e : Eyes V S) (v : V) (r : Records) (b : V) (q : Records) (len top : ℕ) (up : Bool) (lower : Changed) (own : Change) : Type 0 where
+pub record Carried {V : Type 0} (e : Eyes V) (v : V) (r : Records) (b : V) (q : Records) (len top : ℕ) (up : Bool) (lower : Changed) (own : Change) : Type 0 where
   pub sound : Sound e b q len top up
   pub stack : q ∷ e.stack b ≡ (carried e.most r (e.stack v) (e.doc v) (e.doc b) lower).stack
   pub change : own ≡ (carried e.most r (e.stack v) (e.doc v) (e.doc b) lower).change
@@ -43,7 +43,7 @@ still_countable (folds ms) c n h = tt
 still_countable (tabs w) c n h = h
 still_countable (wrap w) c n h = h
 
-module _ {V S : Type 0} (e : Eyes V S) (v : V) (lawful : Lawful e v) where
+module _ {V : Type 0} (e : Eyes V) (v : V) (lawful : Lawful e v) where
   pub text_small : length (text_at e v) ≤ 1073741824
   text_small =
       let t = text_le e.most (e.stack v) (e.doc v) lawful.fits (omega (arith, lawful.small.0)) in
@@ -73,7 +73,7 @@ module _ {V S : Type 0} (e : Eyes V S) (v : V) (lawful : Lawful e v) where
   sound_over r len top up s h = over r (sym s.knows ∙ h) (when_true _ _ h s.fits)
 
 -- the view below went from v to v' by the change c, which a sound layer with the records r follows
-module _ {V S : Type 0} (e : Eyes V S) (v v' : V) (lawful : Lawful e v) (lawful' : Lawful e v') (r : Records) (len top : ℕ) (up : Bool)
+module _ {V : Type 0} (e : Eyes V) (v v' : V) (lawful : Lawful e v) (lawful' : Lawful e v') (r : Records) (len top : ℕ) (up : Bool)
     (s : Sound e v r len top up) (c : Change) (kept : Kept (text_at e v) (text_at e v') c) (low : ceiling_of e.most (e.stack v') ≡ ceiling_of e.most (e.stack v)) where
   before_is : length (text_at e v') + c.old - c.new ≡ length (text_at e v)
   before_is = let h = keeps_length (text_at e v) (text_at e v') c.start c.old c.new kept in omega arith

@@ -9,12 +9,12 @@ use Rattle.codes.specs.Codes.{placeholder}
 use Rattle.places.specs.Marks.{Mark, past, Placed, Light, Solid}
 use Rattle.view.specs.Layers.{Records, hints, folds, tabs, wrap, Fit}
 use Rattle.view.specs.Stacks.{text_of, ceiling_of, awake}
-use Rattle.view.specs.declared.view.View.{Ghosts as Eyes}
+use Rattle.view.specs.declared.view.Meaning.{Ghosts as Eyes}
 use Rattle.view.specs.Seen.{text_at}
 
 -- a layer with the records r over the view v: its length and its ceiling are those of its text, it knows whether it is
 -- awake, and its records fit if it is
-pub record Sound {V S : Type 0} (e : Eyes V S) (v : V) (r : Records) (len top : ℕ) (up : Bool) : Type 0 where
+pub record Sound {V : Type 0} (e : Eyes V) (v : V) (r : Records) (len top : ℕ) (up : Bool) : Type 0 where
   pub knows : up ≡ awake e.most r (e.stack v)
   pub sized : len ≡ length (text_of e.most (r ∷ e.stack v) (e.doc v))
   pub topped : top ≡ ceiling_of e.most (r ∷ e.stack v)
@@ -48,5 +48,5 @@ fit_once (wrap w) n = Prim.hlevel le_prop
 fits_once : (up : Bool) (r : Records) (n : ℕ) → IsProp (MatchBool up (Fit r n) (Unit {0}))
 fits_once up r n = MatchBool-prop up (Fit r n) (Unit {0}) (fit_once r n) Unit-prop
 
-pub sound_once : {V S : Type 0} (e : Eyes V S) (v : V) (r : Records) (len top : ℕ) (up : Bool) → IsProp (Sound e v r len top up)
+pub sound_once : {V : Type 0} (e : Eyes V) (v : V) (r : Records) (len top : ℕ) (up : Bool) → IsProp (Sound e v r len top up)
 sound_once e v r len top up = Prim.hlevel (ℕ_set, Bool-set, fits_once up r (length (text_at e v)))

@@ -16,20 +16,20 @@ use places::change::Change;
 use view::fault::{Cause, ViewFault};
 use view::kind::Kind;
 use view::order::Order;
-use view::view::View;
+use view::view::{Meaning, View};
 
 // No text is longer; a layer whose text could be is asleep and rewrites nothing.
 const HIGHEST_CEILING: u64 = 1_073_741_824;
 
 #[derive(Drop)]
-pub struct Layer<V: View, K: Kind> {
+pub struct Layer<V: Meaning, K: Kind> {
     below: V,
     kind: K,
     len: u32,
     ceiling: u32,
     // stays: no mark of a value that is there or not, since the records of a sleeping layer count in its stack
     awake: bool,
-    ghost sound: { Sound V.View below (K.Kind.records kind) len ceiling awake } by { sound_once V.View below (K.Kind.records kind) len ceiling awake },
+    ghost sound: { Sound V.Meaning below (K.Kind.records kind) len ceiling awake } by { sound_once V.Meaning below (K.Kind.records kind) len ceiling awake },
 }
 
 // The own ceiling over one of `low`; none where it would be too high, so that the layer is asleep.
@@ -53,9 +53,9 @@ fn carry<V: View, K: Kind>(
     awake: bool,
     change: Change,
 ) -> Change
-    requires behind { MatchBool awake (Behind V.View below.now (K.Kind.records kind.old) change) (Unit {0}) }
-    requires over { MatchBool awake (Over V.View below.now (followed (K.Kind.records kind.old) change)) (Unit {0}) }
-    ensures { MatchBool awake ((K.Kind.records kind.new ≡ followed (K.Kind.records kind.old) change) × (len.new ≡ length (shown (followed (K.Kind.records kind.old) change) (text_at V.View below.now))) × Raises (K.Kind.records kind.old) (text_at V.View below.now) change len.old result) ((K.Kind.records kind.new ≡ K.Kind.records kind.old) × (len.new ≡ length (text_at V.View below.now)) × (result ≡ change)) }
+    requires behind { MatchBool awake (Behind V.Meaning below.now (K.Kind.records kind.old) change) (Unit {0}) }
+    requires over { MatchBool awake (Over V.Meaning below.now (followed (K.Kind.records kind.old) change)) (Unit {0}) }
+    ensures { MatchBool awake ((K.Kind.records kind.new ≡ followed (K.Kind.records kind.old) change) × (len.new ≡ length (shown (followed (K.Kind.records kind.old) change) (text_at V.Meaning below.now))) × Raises (K.Kind.records kind.old) (text_at V.Meaning below.now) change len.old result) ((K.Kind.records kind.new ≡ K.Kind.records kind.old) × (len.new ≡ length (text_at V.Meaning below.now)) × (result ≡ change)) }
 {
     if !awake {
         *len = below.len();
@@ -66,25 +66,27 @@ fn carry<V: View, K: Kind>(
     own
 }
 
+impl<V: Meaning, K: Kind> Meaning for Layer<V, K> {
+    ghost most = { V.Meaning.most };
+
+    ghost doc = { λ l. V.Meaning.doc l.below };
+
+    ghost spare_of = { λ l. V.Meaning.spare_of l.below };
+
+    ghost spare_after = { V.Meaning.spare_after };
+
+    ghost stack = { λ l. K.Kind.records l.kind ∷ V.Meaning.stack l.below };
+
+    ghost opened = { K.Kind.initial ∷ V.Meaning.opened };
+}
+
 impl<V: View, K: Kind> View for Layer<V, K> {
     type Store = V::Store;
-
-    ghost most = { V.View.most };
-
-    ghost doc = { λ l. V.View.doc l.below };
-
-    ghost spare_of = { λ l. V.View.spare_of l.below };
-
-    ghost spare_after = { V.View.spare_after };
-
-    ghost stack = { λ l. K.Kind.records l.kind ∷ V.View.stack l.below };
-
-    ghost opened = { K.Kind.initial ∷ V.View.opened };
 
     ghost fits = { Prim.search rules };
 
     ghost means = { λ l.
-        sound_means V.View.own l.below (record { fits = V.View.fits l.below; small = V.View.small l.below }) (K.Kind.records l.kind) l.len l.ceiling l.awake l.sound };
+        sound_means V.Meaning.own l.below (record { fits = V.View.fits l.below; small = V.View.small l.below }) (K.Kind.records l.kind) l.len l.ceiling l.awake l.sound };
 
     ghost small = { Prim.search rules };
 

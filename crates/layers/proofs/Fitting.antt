@@ -10,7 +10,7 @@ use Rattle.places.proofs.Keeping.{keeps_length}
 use Rattle.places.proofs.Placing.{placed_le}
 use Rattle.places.proofs.Laying.{laid_length}
 use Rattle.view.specs.Layers.{Records, hints, folds, tabs, wrap, marks_in, Fit, raised}
-use Rattle.view.specs.declared.view.View.{Ghosts as Eyes}
+use Rattle.view.specs.declared.view.Meaning.{Ghosts as Eyes}
 use Rattle.view.specs.Seen.{text_at}
 use Rattle.view.specs.Kinds.{Over, Behind}
 use Rattle.layer.specs.Fitting.{fit_placed, grown_length}
@@ -35,7 +35,7 @@ counted (folds ms) xs f h = let g = grown_length (folds ms) xs (length xs) f (om
 counted (tabs w) xs f h = counted_none xs h
 counted (wrap w) xs f h = counted_none xs h
 
-module _ {V S : Type 0} (e : Eyes V S) (v : V) (r : Records) where
+module _ {V : Type 0} (e : Eyes V) (v : V) (r : Records) where
   pub over_counted : Over e v r → Counted (marks_in r) (text_at e v)
   over_counted o = counted r (text_at e v) o.fit o.low
 

@@ -18,7 +18,7 @@ use view::view::View;
 
 // Where the document place `p` lies in the text of `below`: the first place there. Refused where it is past the end.
 pub fn place_below<V: View>(below: &V, p: u32) -> Result<u32, Cause>
-    ensures { MatchResult result (λ l. (p ≤ length (V.View.doc below.now)) × (l ≡ first_at V.View below.now p)) (λ f. (length (V.View.doc below.now) < p) × (cause_refusal f ≡ told 1 p)) }
+    ensures { MatchResult result (λ l. (p ≤ length (V.Meaning.doc below.now)) × (l ≡ first_at V.Meaning below.now p)) (λ f. (length (V.Meaning.doc below.now) < p) × (cause_refusal f ≡ told 1 p)) }
 {
     below.first(p).map_err(|_| Cause::PastEnd { place: p })
 }

@@ -39,9 +39,9 @@ pub trait Marked: Record {
     // Lets the records of `table` follow the change `change` that led to the text of `below`, where the text over them had
     // `len` codes before; answers the change of that text.
     fn follow_all<V: View>(table: &mut Table<Self>, below: &V, len: u32, change: Change) -> Change
-        requires { Behind V.View below.now (records (marks_of Self.mark table.old)) change }
+        requires { Behind V.Meaning below.now (records (marks_of Self.mark table.old)) change }
         ensures marks { marks_of Self.mark table.new ≡ followed change.start change.old change.new (marks_of Self.mark table.old) }
-        ensures raises { Raises (records (marks_of Self.mark table.old)) (text_at V.View below.now) change len result };
+        ensures raises { Raises (records (marks_of Self.mark table.old)) (text_at V.Meaning below.now) change len result };
 
     // Carries out an order that adds a record, or says why not.
     fn add<V: View>(
@@ -50,9 +50,9 @@ pub trait Marked: Record {
         order: Order,
         w: &[u32],
     ) -> Result<Change, Cause>
-        requires over { Over V.View below.now (records (marks_of Self.mark table.old)) }
+        requires over { Over V.Meaning below.now (records (marks_of Self.mark table.old)) }
         requires adds { order.verb ≡ ADDS }
-        ensures { Carries (records (marks_of Self.mark table.old)) (records (marks_of Self.mark table.new)) table.old table.new (text_at V.View below.now) (length (V.View.doc below.now)) (first_at V.View below.now order.x) (first_at V.View below.now order.y) order w.now result };
+        ensures { Carries (records (marks_of Self.mark table.old)) (records (marks_of Self.mark table.new)) table.old table.new (text_at V.Meaning below.now) (length (V.Meaning.doc below.now)) (first_at V.Meaning below.now order.x) (first_at V.Meaning below.now order.y) order w.now result };
 
     ghost kept: { KeptAsMarks records };
 

@@ -12,9 +12,9 @@ use view::view::View;
 
 // The code behind the place `u`. One pass over the records.
 pub fn code_over<R: Record, V: View>(table: &Table<R>, below: &V, u: u32) -> u32
-    requires counted { Counted (marks_of R.Record.mark table.now) (text_at V.View below.now) }
-    requires within { u ≤ length (text_over (marks_of R.Record.mark table.now) (text_at V.View below.now)) }
-    ensures { result ≡ slice_index (text_over (marks_of R.Record.mark table.now) (text_at V.View below.now)) u }
+    requires counted { Counted (marks_of R.Record.mark table.now) (text_at V.Meaning below.now) }
+    requires within { u ≤ length (text_over (marks_of R.Record.mark table.now) (text_at V.Meaning below.now)) }
+    ensures { result ≡ slice_index (text_over (marks_of R.Record.mark table.now) (text_at V.Meaning below.now)) u }
 {
     match held_at(table, u) {
         Held::Shown { index, offset } => table.records()[index].code(offset),
@@ -24,9 +24,9 @@ pub fn code_over<R: Record, V: View>(table: &Table<R>, below: &V, u: u32) -> u32
 
 // The place of `below` under the place `u`. One pass over the records.
 pub fn under_over<R: Record, V: View>(table: &Table<R>, below: &V, u: u32) -> u32
-    requires counted { Counted (marks_of R.Record.mark table.now) (text_at V.View below.now) }
-    requires within { u ≤ length (text_over (marks_of R.Record.mark table.now) (text_at V.View below.now)) }
-    ensures { result ≡ under_over (marks_of R.Record.mark table.now) (text_at V.View below.now) u }
+    requires counted { Counted (marks_of R.Record.mark table.now) (text_at V.Meaning below.now) }
+    requires within { u ≤ length (text_over (marks_of R.Record.mark table.now) (text_at V.Meaning below.now)) }
+    ensures { result ≡ under_over (marks_of R.Record.mark table.now) (text_at V.Meaning below.now) u }
 {
     match held_at(table, u) {
         Held::Shown { index, offset: _ } => table.records()[index].place(),

@@ -3,11 +3,11 @@ use Rattle.std.specs.Prelude.{◌≡◌, ℕ, ◌+◌, ◌-◌, ◌≤◌, max, 
 use Rattle.places.specs.declared.change.Change.{Change}
 use Rattle.lines.specs.Lines.{line_end}
 use Rattle.lines.specs.Transducers.{Transducer, text_by, reach_by}
-use Rattle.view.specs.declared.view.View.{Ghosts as Eyes}
+use Rattle.view.specs.declared.view.Meaning.{Ghosts as Eyes}
 use Rattle.view.specs.Seen.{text_at}
 
 -- neither the text below nor what is shown of it is too long to count
-pub record Walkable {V S : Type 0} (e : Eyes V S) (v : V) (m : Transducer) : Type 0 where
+pub record Walkable {V : Type 0} (e : Eyes V) (v : V) (m : Transducer) : Type 0 where
   pub low : length (text_at e v) ≤ 1073741824
   pub high : length (text_by m (text_at e v)) ≤ 1073741824
 

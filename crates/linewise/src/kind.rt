@@ -21,8 +21,8 @@ pub struct Lines<S> {
 impl<S: Width> Lines<S> {
     // The walk through the text of `below`.
     fn walk<'a, V: View>(&self, below: &'a V) -> Walk<'a, S, V>
-        requires low { length (text_at V.View below.now) ≤ 1073741824 }
-        requires room { Countable (S.records_at (S.width_of self.now.scan)) (length (text_at V.View below.now)) }
+        requires low { length (text_at V.Meaning below.now) ≤ 1073741824 }
+        requires room { Countable (S.records_at (S.width_of self.now.scan)) (length (text_at V.Meaning below.now)) }
         ensures scan { result.scan ≡ self.now.scan }
         ensures below { result.below.now ≡ below.now }
     {

@@ -15,7 +15,7 @@ use view::view::View;
 pub struct Walk<'a, S: Scan, V: View> {
     pub scan: S,
     pub below: &'a V,
-    ghost walkable: { Walkable V.View below.now (S.Scan.transducer scan) },
+    ghost walkable: { Walkable V.Meaning below.now (S.Scan.transducer scan) },
 }
 
 // What stands at a place of the text above: the place below, and the code, 0 at the end.
@@ -30,9 +30,9 @@ impl<'a, S: Scan, V: View> Walk<'a, S, V> {
     // How many codes are shown of the first `l` codes below: the first place that lies at or behind `l`.
     #[tactic(auto, using(crate::proofs::Walks::steps))]
     pub fn reach(&self, l: u32) -> u32
-        requires { l ≤ length (text_at V.View self.now.below.now) }
-        ensures shown { result ≡ reach_by (S.Scan.transducer self.now.scan) (text_at V.View self.now.below.now) l }
-        ensures first { result ≡ first_by (S.Scan.transducer self.now.scan) (text_at V.View self.now.below.now) l }
+        requires { l ≤ length (text_at V.Meaning self.now.below.now) }
+        ensures shown { result ≡ reach_by (S.Scan.transducer self.now.scan) (text_at V.Meaning self.now.below.now) l }
+        ensures first { result ≡ first_by (S.Scan.transducer self.now.scan) (text_at V.Meaning self.now.below.now) l }
     {
         let mut reach = 0;
         let mut state = self.scan.start(self.below);
@@ -48,7 +48,7 @@ impl<'a, S: Scan, V: View> Walk<'a, S, V> {
     // How many codes are shown of all of it.
     #[tactic(auto, using(lines::proofs::Scanning::reach_all))]
     pub fn len(&self) -> u32
-        ensures { result ≡ length (text_by (S.Scan.transducer self.now.scan) (text_at V.View self.now.below.now)) }
+        ensures { result ≡ length (text_by (S.Scan.transducer self.now.scan) (text_at V.Meaning self.now.below.now)) }
     {
         self.reach(self.below.len())
     }
@@ -56,9 +56,9 @@ impl<'a, S: Scan, V: View> Walk<'a, S, V> {
     // What stands at the place `u` of the text above.
     #[tactic(auto, using(crate::proofs::Walks::steps))]
     pub fn seek(&self, u: u32) -> Spot
-        requires { u ≤ length (text_by (S.Scan.transducer self.now.scan) (text_at V.View self.now.below.now)) }
-        ensures under { result.under ≡ place_by (S.Scan.transducer self.now.scan) (text_at V.View self.now.below.now) u }
-        ensures code { result.code ≡ slice_index (text_by (S.Scan.transducer self.now.scan) (text_at V.View self.now.below.now)) u }
+        requires { u ≤ length (text_by (S.Scan.transducer self.now.scan) (text_at V.Meaning self.now.below.now)) }
+        ensures under { result.under ≡ place_by (S.Scan.transducer self.now.scan) (text_at V.Meaning self.now.below.now) u }
+        ensures code { result.code ≡ slice_index (text_by (S.Scan.transducer self.now.scan) (text_at V.Meaning self.now.below.now)) u }
     {
         let len = self.below.len();
         let mut reach = 0;
@@ -85,8 +85,8 @@ impl<'a, S: Scan, V: View> Walk<'a, S, V> {
     // The greatest place that lies at or before the place `l` below.
     #[tactic(auto, using(crate::proofs::Walks::ends))]
     pub fn last(&self, l: u32) -> u32
-        requires { l ≤ length (text_at V.View self.now.below.now) }
-        ensures { result ≡ last_by (S.Scan.transducer self.now.scan) (text_at V.View self.now.below.now) l }
+        requires { l ≤ length (text_at V.Meaning self.now.below.now) }
+        ensures { result ≡ last_by (S.Scan.transducer self.now.scan) (text_at V.Meaning self.now.below.now) l }
     {
         if l < self.below.len() {
             self.reach(l + 1) - 1
@@ -99,9 +99,9 @@ impl<'a, S: Scan, V: View> Walk<'a, S, V> {
     // from its place `from` on to the end of the line that the change ends in.
     #[tactic(auto, using(lines::proofs::Lining::line_end_fits))]
     pub fn raise(&self, len: u32, from: u32, change: Change) -> Change
-        requires within { change.start + change.new ≤ length (text_at V.View self.now.below.now) }
-        requires before { from ≤ length (text_at V.View self.now.below.now) }
-        ensures { ByNew (S.Scan.transducer self.now.scan) (text_at V.View self.now.below.now) change len (reach_by (S.Scan.transducer self.now.scan) (text_at V.View self.now.below.now) from) result }
+        requires within { change.start + change.new ≤ length (text_at V.Meaning self.now.below.now) }
+        requires before { from ≤ length (text_at V.Meaning self.now.below.now) }
+        ensures { ByNew (S.Scan.transducer self.now.scan) (text_at V.Meaning self.now.below.now) change len (reach_by (S.Scan.transducer self.now.scan) (text_at V.Meaning self.now.below.now) from) result }
     {
         let end = self.reach(line_end(self.below, change.start + change.new));
         let behind = self.len().saturating_sub(end);

@@ -6,7 +6,7 @@ ghost use Rattle.view.specs.Identity.{bare_means};
 
 use crate::fault::{Cause, ViewFault};
 use crate::order::Order;
-use crate::view::View;
+use crate::view::{Meaning, View};
 use buffer::buffer::Buffer;
 use places::change::Change;
 
@@ -27,9 +27,7 @@ impl<B: Buffer> Bare<B> {
     }
 }
 
-impl<B: Buffer> View for Bare<B> {
-    type Store = B;
-
+impl<B: Buffer> Meaning for Bare<B> {
     ghost most = { B.Buffer.most };
 
     ghost doc = { λ v. B.Buffer.doc v.store };
@@ -41,6 +39,10 @@ impl<B: Buffer> View for Bare<B> {
     ghost stack = { λ _. [] };
 
     ghost opened = { [] };
+}
+
+impl<B: Buffer> View for Bare<B> {
+    type Store = B;
 
     ghost fits = { Prim.search rules };
 

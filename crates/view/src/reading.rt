@@ -8,15 +8,15 @@ use codes::code::is_row_end;
 
 // The code behind the place `i`, 0 past the end. Costs one question.
 pub fn code_at<V: View>(below: &V, i: u32) -> u32
-    ensures { result ≡ slice_index (text_at V.View below.now) i }
+    ensures { result ≡ slice_index (text_at V.Meaning below.now) i }
 {
     below.code(i).unwrap_or(0)
 }
 
 // Where the line that holds `place` begins. Costs a question for each code of the line in front of it.
 pub fn line_start<V: View>(below: &V, place: u32) -> u32
-    requires { place ≤ length (text_at V.View below.now) }
-    ensures { result ≡ line_start (text_at V.View below.now) place }
+    requires { place ≤ length (text_at V.Meaning below.now) }
+    ensures { result ≡ line_start (text_at V.Meaning below.now) place }
 {
     for i in (0..place).rev() {
         if is_row_end(code_at(below, i)) {
@@ -28,8 +28,8 @@ pub fn line_start<V: View>(below: &V, place: u32) -> u32
 
 // Where the line that holds `place` ends. Costs a question for each code of the line behind it.
 pub fn line_end<V: View>(below: &V, place: u32) -> u32
-    requires { place ≤ length (text_at V.View below.now) }
-    ensures { result ≡ line_end (text_at V.View below.now) place }
+    requires { place ≤ length (text_at V.Meaning below.now) }
+    ensures { result ≡ line_end (text_at V.Meaning below.now) place }
 {
     let len = below.len();
     for i in place..len {

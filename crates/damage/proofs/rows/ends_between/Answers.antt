@@ -7,7 +7,7 @@ use Rattle.damage.proofs.rows.ends_between.Goals.{then-is_row_end, else-is_row_e
 
 pub overflow_add-ends : goal.overflow_add-ends
 overflow_add-ends g c =
-    let e = g.V.View in
+    let e = g.V.Meaning in
     let v = c.args.view.now in
     let few = ends_few e.most (e.stack v) (e.doc v) (g.met.V.View.means v) in
     omega (arith, few c.loop-i.i, c.loop-i.invariant.1)
@@ -17,7 +17,7 @@ loop-i-init g c = (omega arith, omega arith)
 
 pub loop-i-preserved : goal.loop-i-preserved
 loop-i-preserved g c =
-    let t = text_at g.V.View c.args.view.now in
+    let t = text_at g.V.Meaning c.args.view.now in
     let i = c.loop-i.i in
     let inside : i < length t = omega (arith, c.len.ensures, c.min-i-end.ensures) in
     let count = c.loop-i.invariant.1 in
@@ -32,6 +32,6 @@ loop-i-preserved g c =
 
 pub returns : goal.returns
 returns g c =
-    let t = text_at g.V.View c.args.view.now in
+    let t = text_at g.V.Meaning c.args.view.now in
     let stop : c.min-i-end.result ≡ min c.args.to (length t) = omega (arith, c.min-i-end.ensures, c.len.ensures) in
     ends_counted t c.args.from c.args.to c.min-i-end.result c.loop-i.i c.loop-i.ends stop c.loop-i-test.false c.loop-i.auto.i c.loop-i.invariant.0 c.loop-i.invariant.1

@@ -7,4 +7,4 @@ use Rattle.damage.proofs.rows.ends_between.Given as goal
 abbrev pub invariant-loop-i : goal.invariant-loop-i
 invariant-loop-i g l =
     (l.i ≤ max l.from l.i-end)
-    × (l.ends + ends_before (text_at g.V.View l.view) l.from ≡ ends_before (text_at g.V.View l.view) l.i)
+    × (l.ends + ends_before (text_at g.V.Meaning l.view) l.from ≡ ends_before (text_at g.V.Meaning l.view) l.i)

@@ -8,14 +8,14 @@ use Rattle.layers.proofs.over.under_over.Goals as goal
 pub bounds-records-index : goal.bounds-records-index
 bounds-records-index g c =
     held_index g.R.Record.mark c.records.result.now (records_of c.args.table.now) c.records.ensures.value c.in-Shown.index
-    (c.in-Shown.ensures (text_at g.V.View c.args.below.now) c.requires.within c.requires.counted).0
+    (c.in-Shown.ensures (text_at g.V.Meaning c.args.below.now) c.requires.within c.requires.counted).0
 
 pub offset_bounds-records-index : goal.offset_bounds-records-index
 offset_bounds-records-index g c = let h : c.in-Shown.index < length c.records.result.now = bounds-records-index g c in omega arith
 
 pub returns-in-Shown : goal.returns-in-Shown
 returns-in-Shown g c =
-    let held = c.in-Shown.ensures (text_at g.V.View c.args.below.now) c.requires.within c.requires.counted in
+    let held = c.in-Shown.ensures (text_at g.V.Meaning c.args.below.now) c.requires.within c.requires.counted in
     let here = held_mark g.R.Record.mark c.records.result.now (records_of c.args.table.now) c.records.ensures.value c.in-Shown.index held.0 c.index-records-index.result c.index-records-index.is in
     c.place.ensures
     ∙ ap (λ (m : Mark). m.at) (sym here)

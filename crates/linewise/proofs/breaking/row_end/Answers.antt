@@ -8,7 +8,7 @@ use Rattle.linewise.proofs.breaking.row_end.Goals.{then-code-eq-SPACE, else-code
 
 pub loop-i-preserved : goal.loop-i-preserved
 loop-i-preserved g c =
-    let t = text_at g.V.View c.args.below.now in
+    let t = text_at g.V.Meaning c.args.below.now in
     let goes : is_row_end (get_or t c.loop-i.i 0) ≡ false = ap is_row_end (sym c.code_at-code.ensures) ∙ sym c.if-is_row_end.ensures in
     let same = c.code_at-code.ensures in
     let less = c.loop-i.invariant.fits in

@@ -6,19 +6,19 @@ use Rattle.view.proofs.reading.line_end.Goals as goal
 
 pub returns-then-is_row_end : goal.returns-then-is_row_end
 returns-then-is_row_end g c =
-    let t = text_at g.V.View c.args.below.now in
+    let t = text_at g.V.Meaning c.args.below.now in
     let ends : is_row_end (get_or t c.loop-i.i 0) ≡ true = ap is_row_end (sym c.code_at.ensures) ∙ sym c.is_row_end.ensures ∙ c.if-is_row_end.true in
     sym (end_here t c.loop-i.i (omega arith) ends) ∙ c.loop-i.invariant
 
 pub loop-i-preserved : goal.loop-i-preserved
 loop-i-preserved g c =
-    let t = text_at g.V.View c.args.below.now in
+    let t = text_at g.V.Meaning c.args.below.now in
     let goes : is_row_end (get_or t c.loop-i.i 0) ≡ false = ap is_row_end (sym c.code_at.ensures) ∙ sym c.is_row_end.ensures ∙ c.if-is_row_end.false in
     end_more t c.loop-i.i (omega arith) goes ∙ c.loop-i.invariant
 
 pub returns : goal.returns
 returns g c =
-    let t = text_at g.V.View c.args.below.now in
+    let t = text_at g.V.Meaning c.args.below.now in
     let e = end_all t c.loop-i.i (omega arith) in
     let i = c.loop-i.invariant in
     omega arith

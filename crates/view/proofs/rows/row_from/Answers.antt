@@ -9,7 +9,7 @@ use Rattle.view.proofs.rows.row_from.Goals as goal
 
 pub returns-then-is_row_end : goal.returns-then-is_row_end
 returns-then-is_row_end g c =
-    let t = text_at g.V.View c.args.view.now in
+    let t = text_at g.V.Meaning c.args.view.now in
     let i = c.loop-i.i in
     let at = c.in_ok-code.ensures in
     let ends : is_in_row (get_or t i 0) ≡ false = ap not (ap is_row_end (sym at.1) ∙ sym c.is_row_end.ensures ∙ c.if-is_row_end.true) in
@@ -19,7 +19,7 @@ returns-then-is_row_end g c =
 
 pub loop-i-preserved : goal.loop-i-preserved
 loop-i-preserved g c =
-    let t = text_at g.V.View c.args.view.now in
+    let t = text_at g.V.Meaning c.args.view.now in
     let i = c.loop-i.i in
     let at = c.in_ok-code.ensures in
     let goes : is_in_row (get_or t i 0) ≡ true = ap not (ap is_row_end (sym at.1) ∙ sym c.is_row_end.ensures ∙ c.if-is_row_end.false) in
@@ -30,7 +30,7 @@ loop-i-preserved g c =
 
 pub returns : goal.returns
 returns g c =
-    let t = text_at g.V.View c.args.view.now in
+    let t = text_at g.V.Meaning c.args.view.now in
     let e = prefix_len-drop_all is_in_row t c.loop-i.i (omega arith) in
     let n : c.loop-i.i - c.args.u ≡ prefix_len is_in_row (drop c.args.u t) = omega (arith, c.loop-i.invariant.1) in
     (omega arith, c.loop-i.invariant.0 ∙ ap (λ (k : ℕ). take k (drop c.args.u t)) n)

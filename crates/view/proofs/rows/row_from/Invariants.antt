@@ -7,5 +7,5 @@ use Rattle.view.proofs.rows.row_from.Given as goal
 -- the codes so far are in the row, and handed out
 abbrev pub invariant-loop-i : goal.invariant-loop-i
 invariant-loop-i g l =
-    (vec_items l.row ≡ take (l.i - l.u) (drop l.u (text_at g.V.View l.view)))
-    × ((l.i - l.u) + prefix_len is_in_row (drop l.i (text_at g.V.View l.view)) ≡ prefix_len is_in_row (drop l.u (text_at g.V.View l.view)))
+    (vec_items l.row ≡ take (l.i - l.u) (drop l.u (text_at g.V.Meaning l.view)))
+    × ((l.i - l.u) + prefix_len is_in_row (drop l.i (text_at g.V.Meaning l.view)) ≡ prefix_len is_in_row (drop l.u (text_at g.V.Meaning l.view)))

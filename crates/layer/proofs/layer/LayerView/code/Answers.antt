@@ -8,6 +8,6 @@ code-requires-2 g c =
     let v = c.args.self.now.below in
     let r = g.K.Kind.records c.args.self.now.kind in
     let s = c.args.self.now.sound in
-    let law : (z : g.row.V.Denot) → Lawful g.V.View z = λ z. record { fits = g.met.V.View.fits z; small = g.met.V.View.small z } in
-    let t = ap length (text_awake g.V.View.most r (g.V.View.stack v) (g.V.View.doc v) (sym s.knows ∙ c.if-not-self.false)) in
-    record { over = sound_over g.V.View v (law v) r _ _ _ s c.if-not-self.false; within = omega (arith, s.sized, c.if-u-self.false) }
+    let law : (z : g.row.V.Denot) → Lawful g.V.Meaning z = λ z. record { fits = g.met.V.View.fits z; small = g.met.V.View.small z } in
+    let t = ap length (text_awake g.V.Meaning.most r (g.V.Meaning.stack v) (g.V.Meaning.doc v) (sym s.knows ∙ c.if-not-self.false)) in
+    record { over = sound_over g.V.Meaning v (law v) r _ _ _ s c.if-not-self.false; within = omega (arith, s.sized, c.if-u-self.false) }

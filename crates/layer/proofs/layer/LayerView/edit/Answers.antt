@@ -17,7 +17,7 @@ returns-in_err-change g c =
     let l = c.args.self.now in
     let v = l.below in
     let v' = c.edit.new.self in
-    let e = g.V.View in
+    let e = g.V.Meaning in
     let p = err_from_is_err_and c.from_residual.result c.from_residual.ensures.1 in
     let f = mapped_err deeper _ (λ e z k. search rules) c.edit.result c.map_err.result c.in_err-change.field-0.0 c.map_err.ensures.cases c.in_err-change.was in
     let P : Result Change ViewFault → Type 0 = λ x. Edits e.most e.doc e.spare_of e.stack v v' e.spare_after c.args.a c.args.r c.args.w.now x in
@@ -30,12 +30,12 @@ pub carry-requires : goal.carry-requires
 carry-requires g c =
     let v = c.args.self.now.below in
     let v' = c.edit.new.self in
-    let e = g.V.View in
+    let e = g.V.Meaning in
     let r = g.K.Kind.records c.args.self.now.kind in
     let s = c.args.self.now.sound in
     let own = c.in_ok-change.change in
     let by : Change = record { start = c.args.a; old = c.args.r; new = length c.args.w.now } in
-    let law : (z : g.row.V.Denot) → Lawful g.V.View z = λ z. record { fits = g.met.V.View.fits z; small = g.met.V.View.small z } in
+    let law : (z : g.row.V.Denot) → Lawful g.V.Meaning z = λ z. record { fits = g.met.V.View.fits z; small = g.met.V.View.small z } in
     let P : Result Change ViewFault → Type 0 = λ x. Edits e.most e.doc e.spare_of e.stack v v' e.spare_after c.args.a c.args.r c.args.w.now x in
     let does = subst P (mapped_ok deeper _ (λ e z k. search rules) c.edit.result c.map_err.result own c.map_err.ensures.cases c.in_ok-change.was) c.edit.ensures in
     let low : ceiling_of e.most (e.stack v') ≡ ceiling_of e.most (e.stack v) = ap (ceiling_of e.most) does.3.0 ∙ edit_ceiling e.most (e.stack v) (e.doc v) (e.doc v') by in
@@ -45,12 +45,12 @@ pub invariant_of-self-2 : goal.invariant_of-self-2
 invariant_of-self-2 g c =
     let v = c.args.self.now.below in
     let v' = c.edit.new.self in
-    let e = g.V.View in
+    let e = g.V.Meaning in
     let r = g.K.Kind.records c.args.self.now.kind in
     let s = c.args.self.now.sound in
     let own = c.in_ok-change.change in
     let by : Change = record { start = c.args.a; old = c.args.r; new = length c.args.w.now } in
-    let law : (z : g.row.V.Denot) → Lawful g.V.View z = λ z. record { fits = g.met.V.View.fits z; small = g.met.V.View.small z } in
+    let law : (z : g.row.V.Denot) → Lawful g.V.Meaning z = λ z. record { fits = g.met.V.View.fits z; small = g.met.V.View.small z } in
     let P : Result Change ViewFault → Type 0 = λ x. Edits e.most e.doc e.spare_of e.stack v v' e.spare_after c.args.a c.args.r c.args.w.now x in
     let does = subst P (mapped_ok deeper _ (λ e z k. search rules) c.edit.result c.map_err.result own c.map_err.ensures.cases c.in_ok-change.was) c.edit.ensures in
     let low : ceiling_of e.most (e.stack v') ≡ ceiling_of e.most (e.stack v) = ap (ceiling_of e.most) does.3.0 ∙ edit_ceiling e.most (e.stack v) (e.doc v) (e.doc v') by in
@@ -62,12 +62,12 @@ pub returns : goal.returns
 returns g c =
     let v = c.args.self.now.below in
     let v' = c.edit.new.self in
-    let e = g.V.View in
+    let e = g.V.Meaning in
     let r = g.K.Kind.records c.args.self.now.kind in
     let s = c.args.self.now.sound in
     let own = c.in_ok-change.change in
     let by : Change = record { start = c.args.a; old = c.args.r; new = length c.args.w.now } in
-    let law : (z : g.row.V.Denot) → Lawful g.V.View z = λ z. record { fits = g.met.V.View.fits z; small = g.met.V.View.small z } in
+    let law : (z : g.row.V.Denot) → Lawful g.V.Meaning z = λ z. record { fits = g.met.V.View.fits z; small = g.met.V.View.small z } in
     let P : Result Change ViewFault → Type 0 = λ x. Edits e.most e.doc e.spare_of e.stack v v' e.spare_after c.args.a c.args.r c.args.w.now x in
     let does = subst P (mapped_ok deeper _ (λ e z k. search rules) c.edit.result c.map_err.result own c.map_err.ensures.cases c.in_ok-change.was) c.edit.ensures in
     let low : ceiling_of e.most (e.stack v') ≡ ceiling_of e.most (e.stack v) = ap (ceiling_of e.most) does.3.0 ∙ edit_ceiling e.most (e.stack v) (e.doc v) (e.doc v') by in

@@ -10,9 +10,9 @@ use Rattle.layer.proofs.layer.LayerView.open.Goals as goal
 pub len-len-requires : goal.len-len-requires
 len-len-requires g c =
     let v = c.open-below.result in
-    let e = g.V.View in
+    let e = g.V.Meaning in
     let k = c.new-kind.result in
-    let law : (z : g.row.V.Denot) → Lawful g.V.View z = λ z. record { fits = g.met.V.View.fits z; small = g.met.V.View.small z } in
+    let law : (z : g.row.V.Denot) → Lawful g.V.Meaning z = λ z. record { fits = g.met.V.View.fits z; small = g.met.V.View.small z } in
     let P : Records → Type 0 = λ r. Fit r (length (text_at e v)) in
     let low = c.ceiling-low.ensures in
     let grows = ap (λ (r : Records). growth r (ceiling_of e.most (e.stack v))) c.new-kind.ensures in

@@ -24,7 +24,7 @@ returns-in_err-change g c =
     let l = c.args.self.now in
     let v = l.below in
     let v' = c.order.new.self in
-    let e = g.V.View in
+    let e = g.V.Meaning in
     let r = g.K.Kind.records l.kind in
     let k = c.args.k - 1 in
     let up : suc k ≡ c.args.k = omega arith in
@@ -46,14 +46,14 @@ pub carry-requires : goal.carry-requires
 carry-requires g c =
     let v = c.args.self.now.below in
     let v' = c.order.new.self in
-    let e = g.V.View in
+    let e = g.V.Meaning in
     let r = g.K.Kind.records c.args.self.now.kind in
     let s = c.args.self.now.sound in
     let k = c.args.k - 1 in
     let o = c.args.order in
     let w = c.args.w.now in
     let own = c.in_ok-change.change in
-    let law : (z : g.row.V.Denot) → Lawful g.V.View z = λ z. record { fits = g.met.V.View.fits z; small = g.met.V.View.small z } in
+    let law : (z : g.row.V.Denot) → Lawful g.V.Meaning z = λ z. record { fits = g.met.V.View.fits z; small = g.met.V.View.small z } in
     let P : Result Change ViewFault → Type 0 = λ x. Obeys e.most e.doc e.spare_of e.stack v v' k o w x in
     let does = subst P (mapped_ok (λ f. meant_for c.args.k (deeper f)) _ (λ f z i. search rules) c.order.result c.map_err.result own c.map_err.ensures.cases c.in_ok-change.was) c.order.ensures in
     let low : ceiling_of e.most (e.stack v') ≡ ceiling_of e.most (e.stack v) = ap (ceiling_of e.most) does.3.0 ∙ order_ceiling e.most (e.stack v) (e.doc v) k o w in
@@ -63,14 +63,14 @@ pub invariant_of-self-then-k-gt0 : goal.invariant_of-self-then-k-gt0
 invariant_of-self-then-k-gt0 g c =
     let v = c.args.self.now.below in
     let v' = c.order.new.self in
-    let e = g.V.View in
+    let e = g.V.Meaning in
     let r = g.K.Kind.records c.args.self.now.kind in
     let s = c.args.self.now.sound in
     let k = c.args.k - 1 in
     let o = c.args.order in
     let w = c.args.w.now in
     let own = c.in_ok-change.change in
-    let law : (z : g.row.V.Denot) → Lawful g.V.View z = λ z. record { fits = g.met.V.View.fits z; small = g.met.V.View.small z } in
+    let law : (z : g.row.V.Denot) → Lawful g.V.Meaning z = λ z. record { fits = g.met.V.View.fits z; small = g.met.V.View.small z } in
     let P : Result Change ViewFault → Type 0 = λ x. Obeys e.most e.doc e.spare_of e.stack v v' k o w x in
     let does = subst P (mapped_ok (λ f. meant_for c.args.k (deeper f)) _ (λ f z i. search rules) c.order.result c.map_err.result own c.map_err.ensures.cases c.in_ok-change.was) c.order.ensures in
     let low : ceiling_of e.most (e.stack v') ≡ ceiling_of e.most (e.stack v) = ap (ceiling_of e.most) does.3.0 ∙ order_ceiling e.most (e.stack v) (e.doc v) k o w in
@@ -83,14 +83,14 @@ returns-then-k-gt0 g c =
     let up : suc (c.args.k - 1) ≡ c.args.k = omega arith in
     let v = c.args.self.now.below in
     let v' = c.order.new.self in
-    let e = g.V.View in
+    let e = g.V.Meaning in
     let r = g.K.Kind.records c.args.self.now.kind in
     let s = c.args.self.now.sound in
     let k = c.args.k - 1 in
     let o = c.args.order in
     let w = c.args.w.now in
     let own = c.in_ok-change.change in
-    let law : (z : g.row.V.Denot) → Lawful g.V.View z = λ z. record { fits = g.met.V.View.fits z; small = g.met.V.View.small z } in
+    let law : (z : g.row.V.Denot) → Lawful g.V.Meaning z = λ z. record { fits = g.met.V.View.fits z; small = g.met.V.View.small z } in
     let P : Result Change ViewFault → Type 0 = λ x. Obeys e.most e.doc e.spare_of e.stack v v' k o w x in
     let does = subst P (mapped_ok (λ f. meant_for c.args.k (deeper f)) _ (λ f z i. search rules) c.order.result c.map_err.result own c.map_err.ensures.cases c.in_ok-change.was) c.order.ensures in
     let low : ceiling_of e.most (e.stack v') ≡ ceiling_of e.most (e.stack v) = ap (ceiling_of e.most) does.3.0 ∙ order_ceiling e.most (e.stack v) (e.doc v) k o w in
@@ -115,14 +115,14 @@ at_zero most r rs d k o w h = let z : k ≡ 0 = omega arith in ap (λ (n : ℕ).
 pub order-requires-2 : goal.order-requires-2
 order-requires-2 g c =
     let v = c.args.self.now.below in
-    let law : (z : g.row.V.Denot) → Lawful g.V.View z = λ z. record { fits = g.met.V.View.fits z; small = g.met.V.View.small z } in
-    record { over = sound_over g.V.View v (law v) (g.K.Kind.records c.args.self.now.kind) _ _ _ c.args.self.now.sound c.if-not-self.false; own = sym c.has_verb.ensures ∙ c.if-not-has_verb.false }
+    let law : (z : g.row.V.Denot) → Lawful g.V.Meaning z = λ z. record { fits = g.met.V.View.fits z; small = g.met.V.View.small z } in
+    record { over = sound_over g.V.Meaning v (law v) (g.K.Kind.records c.args.self.now.kind) _ _ _ c.args.self.now.sound c.if-not-self.false; own = sym c.has_verb.ensures ∙ c.if-not-has_verb.false }
 
 pub returns-in_err-change-2 : goal.returns-in_err-change-2
 returns-in_err-change-2 g c =
     let l = c.args.self.now in
     let v = l.below in
-    let e = g.V.View in
+    let e = g.V.Meaning in
     let r = g.K.Kind.records l.kind in
     let o = c.args.order in
     let w = c.args.w.now in
@@ -141,12 +141,12 @@ returns-in_err-change-2 g c =
 pub len-self-requires : goal.len-self-requires
 len-self-requires g c =
     let v = c.args.self.now.below in
-    let e = g.V.View in
+    let e = g.V.Meaning in
     let r = g.K.Kind.records c.args.self.now.kind in
     let s = c.args.self.now.sound in
     let o = c.args.order in
     let w = c.args.w.now in
-    let law : (z : g.row.V.Denot) → Lawful g.V.View z = λ z. record { fits = g.met.V.View.fits z; small = g.met.V.View.small z } in
+    let law : (z : g.row.V.Denot) → Lawful g.V.Meaning z = λ z. record { fits = g.met.V.View.fits z; small = g.met.V.View.small z } in
     let q = g.K.Kind.records c.order-2.new.self in
     let P : Result Change Cause → Type 0 = λ x. Carries r q c.args.self.now.kind c.order-2.new.self (text_at e v) (length (e.doc v)) (first_at e v o.x) (first_at e v o.y) o w x in
     let does = subst P (mapped_ok (λ f. record { cause = f; layer = 0 }) _ (λ f z i. search rules) c.order-2.result c.map_err-2.result c.in_ok-change-2.change c.map_err-2.ensures.cases c.in_ok-change-2.was) c.order-2.ensures in
@@ -155,12 +155,12 @@ len-self-requires g c =
 pub invariant_of-self-2 : goal.invariant_of-self-2
 invariant_of-self-2 g c =
     let v = c.args.self.now.below in
-    let e = g.V.View in
+    let e = g.V.Meaning in
     let r = g.K.Kind.records c.args.self.now.kind in
     let s = c.args.self.now.sound in
     let o = c.args.order in
     let w = c.args.w.now in
-    let law : (z : g.row.V.Denot) → Lawful g.V.View z = λ z. record { fits = g.met.V.View.fits z; small = g.met.V.View.small z } in
+    let law : (z : g.row.V.Denot) → Lawful g.V.Meaning z = λ z. record { fits = g.met.V.View.fits z; small = g.met.V.View.small z } in
     let q = g.K.Kind.records c.order-2.new.self in
     let P : Result Change Cause → Type 0 = λ x. Carries r q c.args.self.now.kind c.order-2.new.self (text_at e v) (length (e.doc v)) (first_at e v o.x) (first_at e v o.y) o w x in
     let does = subst P (mapped_ok (λ f. record { cause = f; layer = 0 }) _ (λ f z i. search rules) c.order-2.result c.map_err-2.result c.in_ok-change-2.change c.map_err-2.ensures.cases c.in_ok-change-2.was) c.order-2.ensures in
@@ -169,12 +169,12 @@ invariant_of-self-2 g c =
 pub returns : goal.returns
 returns g c =
     let v = c.args.self.now.below in
-    let e = g.V.View in
+    let e = g.V.Meaning in
     let r = g.K.Kind.records c.args.self.now.kind in
     let s = c.args.self.now.sound in
     let o = c.args.order in
     let w = c.args.w.now in
-    let law : (z : g.row.V.Denot) → Lawful g.V.View z = λ z. record { fits = g.met.V.View.fits z; small = g.met.V.View.small z } in
+    let law : (z : g.row.V.Denot) → Lawful g.V.Meaning z = λ z. record { fits = g.met.V.View.fits z; small = g.met.V.View.small z } in
     let q = g.K.Kind.records c.order-2.new.self in
     let P : Result Change Cause → Type 0 = λ x. Carries r q c.args.self.now.kind c.order-2.new.self (text_at e v) (length (e.doc v)) (first_at e v o.x) (first_at e v o.y) o w x in
     let does = subst P (mapped_ok (λ f. record { cause = f; layer = 0 }) _ (λ f z i. search rules) c.order-2.result c.map_err-2.result c.in_ok-change-2.change c.map_err-2.ensures.cases c.in_ok-change-2.was) c.order-2.ensures in

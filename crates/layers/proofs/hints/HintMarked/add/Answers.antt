@@ -17,7 +17,7 @@ use Rattle.layers.proofs.hints.HintMarked.add.Goals as goal
 
 pub returns : goal.returns
 returns g c =
-    let e = g.V.View in
+    let e = g.V.Meaning in
     let v = c.args.below.now in
     let ms : List Mark = marks_of hint_mark c.args.table.now in
     let ms' : List Mark = marks_of hint_mark c.put_in.new.table in

@@ -11,7 +11,7 @@ use Rattle.layers.proofs.marks.MarksKind.order.Goals as goal
 
 pub returns-then-order-REMOVES : goal.returns-then-order-REMOVES
 returns-then-order-REMOVES g c =
-    let e = g.V.View in
+    let e = g.V.Meaning in
     let v = c.args.below.now in
     let kept = g.met.R.Marked.kept in
     let ms : List Mark = marks_of g.R.Record.mark c.args.self.now.table in

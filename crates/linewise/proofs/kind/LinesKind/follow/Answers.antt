@@ -7,7 +7,7 @@ pub returns-clause-raises : goal.returns-clause-raises
 returns-clause-raises g c =
     let s = c.args.self.now.scan in
     let w = g.S.Width.width_of s in
-    let t = text_at g.V.View c.args.below.now in
+    let t = text_at g.V.Meaning c.args.below.now in
     let change = c.args.change in
     λ xs fit kept sized.
     raised_lines (g.S.Scan.transducer s) (g.met.S.Scan.steady s) (g.S.Width.records_at w) (g.met.S.Width.shows s) xs t change kept c.args.len sized
