@@ -1,6 +1,8 @@
 // The kind of a layer that goes through the text below line by line, as a scan of some width does. Each question walks the
 // text below up to the place asked for; a change walks all of it.
-ghost use Rattle.std.specs.Prelude.{◌≡◌, ◌≤◌, length};
+ghost use Rattle.std.specs.Prelude.{◌≡◌, ℕ, ◌≤◌, List, length};
+ghost use Rattle.lines.specs.Transducers.{pieces_by};
+ghost use Rattle.view.specs.Layers.{pieces};
 ghost use Rattle.view.specs.Kinds.{Countable};
 ghost use Rattle.view.specs.Seen.{text_at};
 ghost use Rattle.std.proofs.Common.{rules};
@@ -8,33 +10,39 @@ ghost use Rattle.std.proofs.Common.{rules};
 use crate::walking::Walk;
 use crate::width::Width;
 use places::change::Change;
+use std::marker::PhantomData;
 use view::fault::Cause;
 use view::kind::Kind;
 use view::order::Order;
 use view::view::View;
 
+// stays: the width alone, and the scan that says in its type that the width is in range is made for each walk: the prover does
+// not cover a view over borrowed cells that holds such a struct
 #[derive(Drop)]
 pub struct Lines<S> {
-    scan: S,
+    width: u32,
+    scan: PhantomData<S>,
 }
 
 impl<S: Width> Lines<S> {
     // The walk through the text of `below`.
     fn walk<'a, V: View>(&self, below: &'a V) -> Walk<'a, S, V>
+        requires taken { (S.NARROWEST ≤ self.now.width) × (self.now.width ≤ S.WIDEST) }
         requires low { length (text_at V.Meaning below.now) ≤ 1073741824 }
-        requires room { Countable (S.records_at (S.width_of self.now.scan)) (length (text_at V.Meaning below.now)) }
-        ensures scan { result.scan ≡ self.now.scan }
+        requires room { Countable (S.records_at self.now.width) (length (text_at V.Meaning below.now)) }
+        ensures width { S.width_of result.scan ≡ self.now.width }
+        ensures shows { (xs : List ℕ) → pieces (S.records_at self.now.width) xs ≡ pieces_by (S.transducer result.scan) xs }
         ensures below { result.below.now ≡ below.now }
     {
         Walk {
-            scan: self.scan,
+            scan: S::at_width(self.width),
             below,
         }
     }
 }
 
 impl<S: Width> Kind for Lines<S> {
-    ghost records = { λ l. S.records_at (S.width_of l.scan) };
+    ghost records = { λ l. S.records_at l.width };
 
     ghost initial = { S.records_at S.OPENING };
 
@@ -46,7 +54,8 @@ impl<S: Width> Kind for Lines<S> {
 
     fn new() -> Lines<S> {
         Lines {
-            scan: S::at_width(S::OPENING),
+            width: S::OPENING,
+            scan: PhantomData,
         }
     }
 
@@ -90,9 +99,7 @@ impl<S: Width> Kind for Lines<S> {
             });
         }
         let old = self.walk(below).len();
-        *self = Lines {
-            scan: S::at_width(order.x),
-        };
+        self.width = order.x;
         let new = self.walk(below).len();
         Ok(Change { start: 0, old, new })
     }

@@ -76,6 +76,8 @@ impl Width for Stops {
 
     ghost fits = { Prim.search rules };
 
+    ghost takes = { Prim.search rules };
+
     ghost grows = { Prim.search rules };
 
     ghost speaks = { Prim.search rules };

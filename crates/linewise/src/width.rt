@@ -61,6 +61,8 @@ pub trait Width: Scan + Copy {
 
     ghost fits: { (w n : ℕ) → NARROWEST ≤ w → w ≤ WIDEST → Fit (records_at w) n };
 
+    ghost takes: { (w n : ℕ) → Fit (records_at w) n → (NARROWEST ≤ w) × (w ≤ WIDEST) };
+
     ghost grows: { (w n : ℕ) → (growth (records_at w) n ≡ FACTOR * n) × (Countable (records_at w) n ↔ (FACTOR * n ≤ 1073741824)) };
 
     ghost speaks: { (w v : ℕ) → has_verb (records_at w) v ≡ (v == VERB) };

@@ -83,6 +83,8 @@ impl Width for Breaks {
 
     ghost fits = { Prim.search rules };
 
+    ghost takes = { Prim.search rules };
+
     ghost grows = { Prim.search rules };
 
     ghost speaks = { Prim.search rules };
