@@ -2,15 +2,16 @@
 // and after; then tries an edit that no document takes, and shows that it changed nothing.
 #![tactic(auto)]
 
-use anyhow::anyhow;
+use anyhow::Context;
 use buffer::buffer::Buffer;
-use buffer::fault::BufferFault;
+use buffer::fault::{BufferFault, Refusal};
 use buffer::gap_buffer::{GapBuffer, open};
 use codes::text::{decode_text, encode_text};
 use document::find::find;
 use document::lines::line_at;
 use document::stretch::stretch;
 use std::alloc::Global;
+use std::io;
 
 // The cells beyond the document, for what is typed.
 const ROOM: usize = 512;
@@ -35,82 +36,62 @@ const RIGHT: &str = "Z-45.";
 // A depth with an escape in it, which no document holds.
 const GARBLED: &str = "Z-4\u{1b}5.";
 
-fn codes_of(heap: Global, text: &str) -> anyhow::Result<Vec<u32>> {
-    match decode_text(heap, text.as_bytes()) {
-        Ok(codes) => Ok(codes),
-        Err(_) => Err(anyhow!("no memory for a text")),
-    }
-}
-
 fn text_between(heap: Global, buffer: &GapBuffer, from: u32, to: u32) -> anyhow::Result<String> {
-    let Ok(codes) = stretch(heap, buffer, from, to) else {
-        return Err(anyhow!("no memory for a stretch"));
-    };
-    match encode_text(heap, codes.as_slice()) {
-        Ok(text) => Ok(text),
-        Err(_) => Err(anyhow!("no memory for a line")),
-    }
+    let codes = stretch(heap, buffer, from, to)?;
+    Ok(encode_text(heap, &codes)?)
 }
 
 fn show_line(rt: &HostRuntime, title: &str, buffer: &GapBuffer, place: u32) -> anyhow::Result<()> {
-    let Ok(line) = line_at(buffer, place) else {
-        return Err(anyhow!("no such line"));
-    };
+    let line = line_at(buffer, place)?;
     let text = text_between(rt.alloc(), buffer, line.start, line.end)?;
-    let number = line.number;
-    println!(rt; "{title} line {number}: {text}")?;
+    println!(rt; "{title} line {}: {text}", line.number)?;
     Ok(())
+}
+
+fn show_refusal(rt: &HostRuntime, fault: BufferFault) -> io::Result<()> {
+    println!(rt; "refused: {}", Refusal::from(fault))
 }
 
 // Replaces the first WRONG by RIGHT, and answers where it stood.
 fn correct(rt: &HostRuntime, buffer: &mut GapBuffer) -> anyhow::Result<u32> {
-    let wrong = codes_of(rt.alloc(), WRONG)?;
-    let right = codes_of(rt.alloc(), RIGHT)?;
-    let Some(place) = find(buffer, wrong.as_slice(), 0) else {
-        return Err(anyhow!("the wrong depth is not in the program"));
-    };
+    let wrong = decode_text(rt.alloc(), WRONG.as_bytes())?;
+    let right = decode_text(rt.alloc(), RIGHT.as_bytes())?;
+    let place = find(buffer, &wrong, 0).context("the wrong depth is not in the program")?;
     show_line(rt, "before:", buffer, place)?;
     let removed = u32::try_from(wrong.len())?;
-    match buffer.edit(place, removed, right.as_slice()) {
+    match buffer.edit(place, removed, &right) {
         Ok(()) => show_line(rt, "after: ", buffer, place)?,
-        Err(fault) => show_refusal(rt, &fault)?,
+        Err(fault) => show_refusal(rt, fault)?,
     }
     Ok(place)
 }
 
-fn show_refusal(rt: &HostRuntime, fault: &BufferFault) -> anyhow::Result<()> {
-    let told = fault.refusal();
-    let (number, layer, spot) = (told.number, told.layer, told.spot);
-    println!(rt; "refused: number {number}, layer {layer}, spot {spot}")?;
-    Ok(())
-}
-
 // Tries to put GARBLED in at `place`, and compares the document before and after.
 fn try_garbled(rt: &HostRuntime, buffer: &mut GapBuffer, place: u32) -> anyhow::Result<()> {
-    let garbled = codes_of(rt.alloc(), GARBLED)?;
+    let garbled = decode_text(rt.alloc(), GARBLED.as_bytes())?;
     let before = text_between(rt.alloc(), buffer, 0, buffer.len())?;
-    match buffer.edit(place, 0, garbled.as_slice()) {
+    match buffer.edit(place, 0, &garbled) {
         Ok(()) => println!(rt; "taken, which it must not be")?,
-        Err(fault) => show_refusal(rt, &fault)?,
+        Err(fault) => show_refusal(rt, fault)?,
     }
     let after = text_between(rt.alloc(), buffer, 0, buffer.len())?;
-    if before == after {
-        println!(rt; "the document is unchanged")?;
+    let outcome = if before == after {
+        "is unchanged"
     } else {
-        println!(rt; "the document has changed")?;
-    }
+        "has changed"
+    };
+    println!(rt; "the document {outcome}")?;
     Ok(())
 }
 
 fn run(rt: &HostRuntime) -> anyhow::Result<()> {
-    let mut cells = codes_of(rt.alloc(), PART_PROGRAM)?;
+    let mut cells = decode_text(rt.alloc(), PART_PROGRAM.as_bytes())?;
     let n = cells.len();
     cells.extend_from_slice(&[0; ROOM])?;
-    let opened = open(cells.as_mut_slice(), n);
-    if let Some(fault) = opened.refused {
-        return show_refusal(rt, &fault);
-    }
-    let mut buffer = opened.buffer;
+    let mut buffer = match open(&mut cells, n) {
+        Ok(buffer) => buffer,
+        Err(fault) => return Ok(show_refusal(rt, fault)?),
+    };
     let (len, spare) = (buffer.len(), buffer.spare());
     println!(rt; "opened: {len} codes in a gap buffer, spare {spare}")?;
     let place = correct(rt, &mut buffer)?;

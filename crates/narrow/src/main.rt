@@ -2,31 +2,26 @@
 // soft wrap, each row with the document line that it begins in, and orders that are refused.
 #![tactic(auto)]
 
-use anyhow::anyhow;
 use buffer::buffer::Buffer;
-use buffer::gap_buffer::{GapBuffer, open};
-use codes::text::{decode_text, encode_text};
-use document::find::find;
-use document::lines::line_at;
+use buffer::gap_buffer::open;
+use codes::text::decode_text;
 use layer::layer::Layer;
 use layers::folds::Folds;
 use layers::hints::Hints;
 use linewise::tabs::Tabs;
 use linewise::wrap::Wrap;
-use places::change::Change;
-use std::alloc::Global;
+use printing::orders::{arrange, print_order};
+use printing::rows::print_numbered;
+use std::io;
 use view::bare::Bare;
-use view::fault::ViewFault;
-use view::kind::Kind;
 use view::order::Order;
-use view::rows::row_from;
 use view::view::View;
 
-// Folds over hints over a gap buffer.
-type Folded<'a> = Layer<Layer<Bare<GapBuffer<'a>>, Hints>, Folds>;
+// Folds over hints over a buffer.
+type Folded<B> = Layer<Layer<Bare<B>, Hints>, Folds>;
 
 // Soft wrap over tab stops over these.
-type Layered<'a> = Layer<Layer<Folded<'a>, Tabs>, Wrap>;
+type Layered<B> = Layer<Layer<Folded<B>, Tabs>, Wrap>;
 
 // The steps from the top of the view to its layers.
 const WRAP: u32 = 0;
@@ -50,147 +45,43 @@ N80 G80 G0 Z100. M9\n\
 N90 M30\n\
 %\n";
 
-fn codes_of(heap: Global, text: &str) -> anyhow::Result<Vec<u32>> {
-    match decode_text(heap, text.as_bytes()) {
-        Ok(codes) => Ok(codes),
-        Err(_) => Err(anyhow!("no memory for a text")),
-    }
-}
-
-// Where the document has `word`.
-fn place_of(heap: Global, document: &GapBuffer, word: &str) -> anyhow::Result<u32> {
-    let codes = codes_of(heap, word)?;
-    match find(document, codes.as_slice(), 0) {
-        Some(place) => Ok(place),
-        None => Err(anyhow!("the part program lacks a word")),
-    }
-}
-
-// Prints the row that begins at `u`, with the line of the document it begins in, and answers how long it is.
-fn show_row<V: View>(
-    rt: &HostRuntime,
-    view: &V,
-    document: &GapBuffer,
-    u: u32,
-) -> anyhow::Result<u32>
-    requires { V.View.sound view.now }
-{
-    let Ok(row) = row_from(rt.alloc(), view, u) else {
-        return Err(anyhow!("no memory for a row"));
-    };
-    let Ok(text) = encode_text(rt.alloc(), row.as_slice()) else {
-        return Err(anyhow!("no memory for a text"));
-    };
-    let Ok(place) = view.under(u) else {
-        return Err(anyhow!("no such place"));
-    };
-    let Ok(line) = line_at(document, place) else {
-        return Err(anyhow!("no such line"));
-    };
-    let number = line.number;
-    println!(rt; "{number:>3} |{text}|")?;
-    Ok(u32::try_from(row.len())?)
-}
-
-fn show_rows<V: View>(rt: &HostRuntime, view: &V, document: &GapBuffer) -> anyhow::Result<()>
-    requires { V.View.sound view.now }
-{
-    let len = view.len();
-    let mut u = 0u32;
-    for _ in 0..u64::from(len) + 1 {
-        if u > len {
-            break;
-        }
-        let row = show_row(rt, view, document, u)?;
-        u = u.saturating_add(row).saturating_add(1);
-    }
-    Ok(())
-}
-
-fn show_answer(
-    rt: &HostRuntime,
-    title: &str,
-    answer: Result<Change, ViewFault>,
-) -> anyhow::Result<()> {
-    match answer {
-        Ok(change) => {
-            let (start, old, new) = (change.start, change.old, change.new);
-            println!(rt; "{title}: {old} codes at {start} became {new}")?;
-        }
-        Err(fault) => {
-            let told = fault.refusal();
-            let (number, layer, spot) = (told.number, told.layer, told.spot);
-            println!(rt; "{title}: refused, number {number}, layer {layer}, spot {spot}")?;
-        }
-    }
-    Ok(())
-}
-
 // Sets the two widths, and has one refused that is too narrow.
-fn set_widths<V: View>(rt: &HostRuntime, view: &mut V) -> anyhow::Result<()>
-    requires { V.View.sound view.old }
-    ensures { V.View.sound view.new }
-{
+fn set_widths<V: View>(rt: &HostRuntime, view: &mut V) -> io::Result<()> {
     let stops = Order {
         verb: 't',
         x: 4,
         y: 0,
     };
-    let answer = view.order(TABS, stops, &[]);
-    show_answer(rt, "tab stops by 4", answer)?;
     let narrow = Order {
         verb: 'w',
         x: 24,
         y: 0,
     };
-    let answer = view.order(WRAP, narrow, &[]);
-    show_answer(rt, "rows of 24", answer)?;
     let narrower = Order {
         verb: 'w',
         x: 1,
         y: 0,
     };
-    let answer = view.order(WRAP, narrower, &[]);
-    show_answer(rt, "rows of 1", answer)
+    print_order(rt, "tab stops by 4", view, TABS, stops, &[])?;
+    print_order(rt, "rows of 24", view, WRAP, narrow, &[])?;
+    print_order(rt, "rows of 1", view, WRAP, narrower, &[])
 }
 
-// Puts the hint in and folds, and has one order refused.
-fn arrange<V: View>(rt: &HostRuntime, view: &mut V, document: &GapBuffer) -> anyhow::Result<()>
-    requires { V.View.sound view.old }
-    ensures { V.View.sound view.new }
-{
-    let hint = codes_of(rt.alloc(), " (depth)")?;
-    let behind = place_of(rt.alloc(), document, " R2.")?;
-    let from = place_of(rt.alloc(), document, "N20")?;
-    let to = place_of(rt.alloc(), document, "\nN40")?;
-    let add = Order {
-        verb: 'i',
-        x: behind,
-        y: 0,
-    };
-    let answer = view.order(HINTS, add, hint.as_slice());
-    show_answer(rt, "hint", answer)?;
-    let fold = Order {
-        verb: 'f',
-        x: from,
-        y: to,
-    };
-    let answer = view.order(FOLDS, fold, &[]);
-    show_answer(rt, "fold", answer)?;
-    let answer = view.order(FOLDS, fold, &[]);
-    show_answer(rt, "fold again", answer)
+// Arranges a view of the document in `store`, of which `document` is a copy to look words up in, and prints its rows.
+fn show<B: Buffer + Drop>(rt: &HostRuntime, store: B, document: &B) -> anyhow::Result<()> {
+    let mut view = Layered::open(store);
+    arrange(rt, &mut view, document, HINTS, FOLDS)?;
+    set_widths(rt, &mut view)?;
+    print_numbered(rt, &view, document)?;
+    Ok(())
 }
 
 fn run(rt: &HostRuntime) -> anyhow::Result<()> {
-    let mut cells = codes_of(rt.alloc(), PART_PROGRAM)?;
-    let mut copy = codes_of(rt.alloc(), PART_PROGRAM)?;
+    let mut cells = decode_text(rt.alloc(), PART_PROGRAM.as_bytes())?;
+    let mut copy = decode_text(rt.alloc(), PART_PROGRAM.as_bytes())?;
     let n = cells.len();
-    let document = open(copy.as_mut_slice(), n).buffer;
-    let store = open(cells.as_mut_slice(), n).buffer;
-    let mut view = Layered::open(store);
-    arrange(rt, &mut view, &document)?;
-    set_widths(rt, &mut view)?;
-    show_rows(rt, &view, &document)
+    let document = open(&mut copy, n)?;
+    show(rt, open(&mut cells, n)?, &document)
 }
 
 fn main(rt: HostRuntime) -> anyhow::Result<()> {

@@ -6,22 +6,20 @@
 // printed.
 #![tactic(auto)]
 
-use anyhow::anyhow;
-use buffer::buffer::Buffer;
+use anyhow::{Context, anyhow, bail};
+use buffer::fault::Refusal;
 use buffer::fixed_buffer::FixedBuffer;
 use codes::code::NEWLINE;
-use codes::text::{decode_text, encode_text};
+use codes::text::decode_text;
 use layer::layer::Layer;
 use linewise::tabs::Tabs;
 use linewise::wrap::Wrap;
-use places::change::Change;
+use printing::rows::each_row;
 use std::alloc::Global;
 use std::io::{BufRead, BufReader};
 use view::bare::Bare;
 use view::fault::ViewFault;
-use view::kind::Kind;
 use view::order::Order;
-use view::rows::row_from;
 use view::view::View;
 
 type Tabbed = Layer<Bare<FixedBuffer>, Tabs>;
@@ -45,9 +43,9 @@ fn heading(line: &str) -> Option<(char, u32)> {
 impl Block {
     // The block that `line` begins, which has no text yet.
     fn begin(heap: Global, line: &str) -> anyhow::Result<Block> {
-        let Some((verb, width)) = heading(line) else {
-            return Err(anyhow!(format!(in heap; "neither text nor the start of a block: {line}")?));
-        };
+        let (verb, width) = heading(line).context(format_args!(
+            "neither text nor the start of a block: {line}"
+        ))?;
         Ok(Block {
             verb,
             width,
@@ -57,10 +55,8 @@ impl Block {
 
     // Puts `line` and a newline behind the text.
     fn add(&mut self, heap: Global, line: &str) -> anyhow::Result<()> {
-        let Ok(codes) = decode_text(heap, line.as_bytes()) else {
-            return Err(anyhow!("no memory for a line"));
-        };
-        self.text.extend_from_slice(codes.as_slice())?;
+        let codes = decode_text(heap, line.as_bytes())?;
+        self.text.extend_from_slice(&codes)?;
         self.text.push(NEWLINE)?;
         Ok(())
     }
@@ -71,55 +67,31 @@ fn read_blocks(rt: &HostRuntime) -> anyhow::Result<Vec<Block>> {
     let mut blocks: Vec<Block> = Vec::new(heap);
     for line in BufReader::new(heap, rt.stdin())?.lines(heap) {
         let line = line?;
-        let Some(text) = line.strip_prefix('|') else {
-            blocks.push(Block::begin(heap, line.as_str())?)?;
-            continue;
-        };
-        let Some(block) = blocks.last_mut() else {
-            return Err(anyhow!("text before the first block"));
-        };
-        block.add(heap, text)?;
+        match line.strip_prefix('|') {
+            Some(text) => {
+                let block = blocks.last_mut().context("text before the first block")?;
+                block.add(heap, text)?;
+            }
+            None => blocks.push(Block::begin(heap, &line)?)?,
+        }
     }
     Ok(blocks)
 }
 
-// An error that says the refusal, if the view refused.
-fn taken(heap: Global, answer: Result<Change, ViewFault>) -> anyhow::Result<()> {
-    let Err(fault) = answer else {
-        return Ok(());
-    };
-    let told = fault.refusal();
-    let (number, layer, spot) = (told.number, told.layer, told.spot);
-    Err(anyhow!(format!(in heap; "refused: number {number}, layer {layer}, spot {spot}")?))
-}
-
-// Prints the row that begins at `u`, and answers how long it is.
-fn print_row<V: View>(rt: &HostRuntime, view: &V, u: u32) -> anyhow::Result<u32>
-    requires { V.View.sound view.now }
-{
-    let Ok(row) = row_from(rt.alloc(), view, u) else {
-        return Err(anyhow!("no memory for a row"));
-    };
-    let Ok(text) = encode_text(rt.alloc(), row.as_slice()) else {
-        return Err(anyhow!("no memory for a text"));
-    };
-    println!(rt; "{text}")?;
-    Ok(u32::try_from(row.len())?)
+// An error that says the refusal.
+fn refused(fault: ViewFault) -> anyhow::Error {
+    anyhow!("refused: {}", Refusal::from(fault))
 }
 
 // Prints the rows. A text that ends with a newline has an empty row behind it, which is not printed.
-fn print_rows<V: View>(rt: &HostRuntime, view: &V) -> anyhow::Result<()>
-    requires { V.View.sound view.now }
-{
+fn print_rows<V: View>(rt: &HostRuntime, view: &V) -> anyhow::Result<()> {
     let len = view.len();
-    let mut u = 0u32;
-    for _ in 0..len {
-        if u >= len {
-            break;
+    each_row(rt.alloc(), view, |start, text| {
+        if start < len {
+            println!(rt; "{text}")?;
         }
-        let row = print_row(rt, view, u)?;
-        u = u.saturating_add(row).saturating_add(1);
-    }
+        Ok(())
+    })?;
     Ok(())
 }
 
@@ -128,15 +100,14 @@ fn print_text<V: View<Store = FixedBuffer> + Drop>(
     rt: &HostRuntime,
     block: &Block,
 ) -> anyhow::Result<()> {
-    let heap = rt.alloc();
     let mut view = V::open(FixedBuffer::new());
-    taken(heap, view.edit(0, 0, block.text.as_slice()))?;
+    view.edit(0, 0, &block.text).map_err(refused)?;
     let set_width = Order {
         verb: block.verb,
         x: block.width,
         y: 0,
     };
-    taken(heap, view.order(0, set_width, &[]))?;
+    view.order(0, set_width, &[]).map_err(refused)?;
     print_rows(rt, &view)
 }
 
@@ -145,13 +116,12 @@ fn print_block(rt: &HostRuntime, block: &Block) -> anyhow::Result<()> {
     match block.verb {
         't' => print_text::<Tabbed>(rt, block),
         'w' => print_text::<Wrapped>(rt, block),
-        verb => Err(anyhow!(format!(in rt.alloc(); "no layer here has the verb {verb}")?)),
+        verb => bail!("no layer here has the verb {verb}"),
     }
 }
 
 fn run(rt: &HostRuntime) -> anyhow::Result<()> {
-    let blocks = read_blocks(rt)?;
-    for block in blocks.iter() {
+    for block in &read_blocks(rt)? {
         print_block(rt, block)?;
     }
     Ok(())
