@@ -53,6 +53,7 @@ pub fn stretch<B: Buffer>(
         }));
     }
     let mut codes = Vec::new(heap);
+    // stays: by place, since a buffer hands out its codes so
     for i in from..to {
         codes.push(buffer.code(i)?)?;
     }

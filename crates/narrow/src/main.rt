@@ -76,6 +76,7 @@ fn show<B: Buffer + Drop>(rt: &HostRuntime, store: B, document: &B) -> anyhow::R
     Ok(())
 }
 
+// stays: the cells are owned where they are lent, so in each program
 fn run(rt: &HostRuntime) -> anyhow::Result<()> {
     let mut cells = decode_text(rt.alloc(), PART_PROGRAM.as_bytes())?;
     let mut copy = decode_text(rt.alloc(), PART_PROGRAM.as_bytes())?;

@@ -18,6 +18,7 @@ pub fn line_start<V: View>(below: &V, place: u32) -> u32
     requires { place ≤ length (text_at V.Meaning below.now) }
     ensures { result ≡ line_start (text_at V.Meaning below.now) place }
 {
+    // stays: by place, since a view hands out its codes so
     for i in (0..place).rev() {
         if is_row_end(code_at(below, i)) {
             return i + 1;
@@ -32,6 +33,7 @@ pub fn line_end<V: View>(below: &V, place: u32) -> u32
     ensures { result ≡ line_end (text_at V.Meaning below.now) place }
 {
     let len = below.len();
+    // stays: by place, since a view hands out its codes so
     for i in place..len {
         if is_row_end(code_at(below, i)) {
             return i;
