@@ -10,6 +10,7 @@ use crate::gap::Gap;
 // How many cells a fixed buffer has.
 const CELLS: u32 = 4_096;
 
+// stays: cells and how many of them are filled on each side; that is what a gap buffer is
 #[derive(Drop)]
 pub struct FixedBuffer {
     cells: [u32; CELLS as usize],

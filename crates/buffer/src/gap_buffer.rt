@@ -4,7 +4,7 @@ ghost use Rattle.std.proofs.Common.{lit≤};
 ghost use Rattle.buffer.specs.Refusals.{open_refusal, Checks};
 ghost use Rattle.buffer.specs.Edits.{Edits};
 ghost use Rattle.buffer.specs.Gaps.{cells_left, held_fits, Lies};
-ghost use Rattle.buffer.specs.GapBuffers.{document_of, spare_in, Opens};
+ghost use Rattle.buffer.specs.GapBuffers.{document_of, spare_in, Opens, TriesToOpen};
 
 use crate::buffer::Buffer;
 use crate::fault::BufferFault;
@@ -14,10 +14,19 @@ use codes::code::document_front;
 // The most cells that a gap buffer works in.
 const MOST_CELLS: u32 = 1_048_576;
 
+// stays: cells and how many of them are filled on each side; that is what a gap buffer is
 #[derive(Drop)]
 pub struct GapBuffer<'a> {
     cells: &'a mut [u32],
     gap: Gap<MOST_CELLS>,
+}
+
+// What opening gives: a buffer, over no cells where it was refused, and why it was.
+// stays: no Result, since by the rules opening gives a buffer in any case; `try_open` answers the Result
+#[derive(Drop)]
+pub struct Opened<'a> {
+    pub buffer: GapBuffer<'a>,
+    pub refused: Option<BufferFault>,
 }
 
 impl<'a> GapBuffer<'a> {
@@ -58,14 +67,31 @@ pub fn check_cells(cells: &[u32], n: usize) -> Result<(), BufferFault>
 
 // Opens the first `n` of `cells` as a document, the rest as its spare; what `check_cells` refuses is refused. One pass
 // over the document; no cell is written.
-pub fn open<'a>(cells: &'a mut [u32], n: usize) -> Result<GapBuffer<'a>, BufferFault>
-    ensures { Opens cells.entry n result }
+pub fn try_open<'a>(cells: &'a mut [u32], n: usize) -> Result<GapBuffer<'a>, BufferFault>
+    ensures { TriesToOpen cells.entry n result }
 {
     check_cells(cells, n)?;
     Ok(GapBuffer {
         cells,
         gap: Gap { front: n, back: 0 },
     })
+}
+
+// The same, with a buffer in any case: one that works in no cells where it was refused. One pass over the document; no
+// cell is written.
+pub fn open<'a>(cells: &'a mut [u32], n: usize) -> Opened<'a>
+    ensures { Opens cells.entry n result }
+{
+    match try_open(cells, n) {
+        Ok(buffer) => Opened {
+            buffer,
+            refused: None,
+        },
+        Err(fault) => Opened {
+            buffer: GapBuffer::new(),
+            refused: Some(fault),
+        },
+    }
 }
 
 impl<'a> Buffer for GapBuffer<'a> {

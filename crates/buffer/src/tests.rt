@@ -2,18 +2,17 @@
 use crate::buffer::Buffer;
 use crate::fault::{BufferFault, Refusal};
 use crate::fixed_buffer::FixedBuffer;
-use crate::gap_buffer::{GapBuffer, open};
+use crate::gap_buffer::{open, try_open};
 use std::process::Abort;
 use std::test::Fail;
 
-// An edit, the cause and the spot of its refusal (none where the cause is 0), and the document after it.
+// An edit, its refusal if it is refused, and the document after it.
 #[derive(Clone, Copy)]
 struct Step {
     a: u32,
     r: u32,
     w: &'static [u32],
-    cause: u8,
-    spot: u64,
+    refusal: Option<Refusal>,
     after: &'static [u32],
 }
 
@@ -22,8 +21,7 @@ fn taken(a: u32, r: u32, w: &'static [u32], after: &'static [u32]) -> Step {
         a,
         r,
         w,
-        cause: 0,
-        spot: 0,
+        refusal: None,
         after,
     }
 }
@@ -33,16 +31,12 @@ fn refused(a: u32, r: u32, w: &'static [u32], cause: u8, spot: u64, after: &'sta
         a,
         r,
         w,
-        cause,
-        spot,
+        refusal: told(cause, spot),
         after,
     }
 }
 
 fn told(cause: u8, spot: u64) -> Option<Refusal> {
-    if cause == 0 {
-        return None;
-    }
     Some(Refusal {
         number: cause,
         layer: 0,
@@ -70,7 +64,7 @@ fn check_document<B: Buffer>(rt: &impl Abort, buffer: &B, codes: &[u32]) -> Resu
 fn play<B: Buffer>(rt: &impl Abort, buffer: &mut B, steps: &[Step]) -> Result<(), Fail> {
     for step in steps {
         let x = buffer.edit(step.a, step.r, step.w);
-        assert_eq!(rt; answer(x), told(step.cause, step.spot));
+        assert_eq!(rt; answer(x), step.refusal);
         check_document(rt, buffer, step.after)?;
     }
     Ok(())
@@ -106,7 +100,7 @@ fn edits(rt: HostRuntime) -> Result<(), Fail> {
         taken(0, 0, &[1_114_111], &[1_114_111]),
     ];
     let mut cells = [0; 16];
-    let mut gap = open(&mut cells, 0)?;
+    let mut gap = try_open(&mut cells, 0)?;
     play(&rt, &mut gap, &steps)?;
     let mut fixed = FixedBuffer::new();
     play(&rt, &mut fixed, &steps)
@@ -123,7 +117,7 @@ fn full(rt: HostRuntime) -> Result<(), Fail> {
         taken(3, 0, &[122], &[120, 121, 98, 122]),
     ];
     let mut cells = [97, 98, 0, 0];
-    let mut gap = open(&mut cells, 2)?;
+    let mut gap = try_open(&mut cells, 2)?;
     play(&rt, &mut gap, &steps)?;
     let mut fixed = FixedBuffer::new();
     assert_eq!(rt; answer(fixed.edit(0, 0, &[97; 4097])), told(4, 4096));
@@ -137,21 +131,21 @@ fn full(rt: HostRuntime) -> Result<(), Fail> {
 #[test]
 fn openings(rt: HostRuntime) -> Result<(), Fail> {
     let mut many = vec![in rt.alloc(); 7; 1_048_577]?;
-    assert_eq!(rt;
-        open(many.as_mut_slice(), 1_048_578)
-            .err()
-            .map(Refusal::from),
-        told(13, 1_048_577)
-    );
-    let none = GapBuffer::new();
-    assert_eq!(rt; none.len(), 0);
-    assert_eq!(rt; none.spare(), 0);
+    let opened = open(many.as_mut_slice(), 1_048_578);
+    assert_eq!(rt; opened.buffer.len(), 0);
+    assert_eq!(rt; opened.buffer.spare(), 0);
+    assert_eq!(rt; opened.refused.map(Refusal::from), told(13, 1_048_577));
     let mut cells = [97, 8, 98];
-    assert_eq!(rt; open(&mut cells, 4).err().map(Refusal::from), told(1, 4));
-    assert_eq!(rt; open(&mut cells, 3).err().map(Refusal::from), told(3, 1));
-    let opened = open(&mut cells, 1)?;
-    assert_eq!(rt; opened.spare(), 2);
-    check_document(&rt, &opened, &[97])
+    assert_eq!(rt; open(&mut cells, 4).refused.map(Refusal::from), told(1, 4));
+    assert_eq!(rt; open(&mut cells, 3).refused.map(Refusal::from), told(3, 1));
+    assert_eq!(rt;
+        try_open(&mut cells, 3).err().map(Refusal::from),
+        told(3, 1)
+    );
+    let opened = open(&mut cells, 1);
+    assert!(rt; opened.refused.is_none());
+    assert_eq!(rt; opened.buffer.spare(), 2);
+    check_document(&rt, &opened.buffer, &[97])
 }
 
 #[test]

@@ -24,6 +24,7 @@ pub fn running_sum<R: Measured>(records: &[R], n: usize) -> u128
     ensures value { result ≡ running_sum R.Measured.size records.now n }
     ensures bound { result ≤ 4294967295 * length records.now }
 {
+    // stays: a loop, since of the `sum` of a chain neither the bound nor that it fits was proved
     let mut sum = 0u128;
     for record in records.iter().take(n) {
         sum += u128::from(record.measure());

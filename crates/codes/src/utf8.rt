@@ -92,13 +92,12 @@ pub fn decode(bytes: &[u8]) -> Result<Decoded, DecodeFault>
     let [first, rest @ ..] = bytes else {
         return Err(DecodeFault::End);
     };
-    match lead_of(*first) {
-        Some(lead) => tail(lead, rest),
-        None => Err(DecodeFault::Bad { at: 0 }),
-    }
+    let lead = lead_of(*first).ok_or(DecodeFault::Bad { at: 0 })?;
+    tail(lead, rest)
 }
 
 // The one to four bytes of a code.
+// stays: four cells and a length inside, a list to callers; an `ArrayVec` is not `Copy`
 #[derive(Clone, Copy)]
 pub struct Encoded {
     bytes: [u8; 4],
@@ -124,7 +123,8 @@ impl Model for Encoded {
 impl Encoded {
     // The bytes themselves. Constant time.
     pub fn as_slice(&self) -> &[u8]
-        ensures { result.now ≡ self.now }
+        ensures value { result.now ≡ self.now }
+        ensures few { length result.now ≤ 4 }
     {
         &self.bytes[0..self.len]
     }

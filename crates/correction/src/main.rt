@@ -5,7 +5,7 @@
 use anyhow::Context;
 use buffer::buffer::Buffer;
 use buffer::fault::{BufferFault, Refusal};
-use buffer::gap_buffer::{GapBuffer, open};
+use buffer::gap_buffer::{GapBuffer, try_open};
 use codes::text::{decode_text, encode_text};
 use document::find::find;
 use document::lines::line_at;
@@ -88,7 +88,7 @@ fn run(rt: &HostRuntime) -> anyhow::Result<()> {
     let mut cells = decode_text(rt.alloc(), PART_PROGRAM.as_bytes())?;
     let n = cells.len();
     cells.extend_from_slice(&[0; ROOM])?;
-    let mut buffer = match open(&mut cells, n) {
+    let mut buffer = match try_open(&mut cells, n) {
         Ok(buffer) => buffer,
         Err(fault) => return Ok(show_refusal(rt, fault)?),
     };

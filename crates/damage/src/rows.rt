@@ -15,7 +15,7 @@ fn ends_between<V: View>(view: &V, from: u32, to: u32) -> u32
     ensures { result ≡ ends_before (text_at V.Meaning view.now) to - ends_before (text_at V.Meaning view.now) from }
 {
     let mut ends = 0;
-    // stays: by place, since a view hands out its codes so
+    // stays: a number of 32 bits, where `filter` and `count` give a `usize` that had to be cut
     for i in from..to.min(view.len()) {
         if is_row_end(code_at(view, i)) {
             ends += 1;

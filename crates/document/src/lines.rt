@@ -38,7 +38,7 @@ pub fn line_at<B: Buffer>(buffer: &B, place: u32) -> Result<Line, BufferFault>
     }
     let mut number = 1;
     let mut start = 0;
-    // stays: by place, since a buffer hands out its codes so
+    // stays: it counts and keeps the last start, and a chain with `?` is no plainer
     for i in 0..place {
         if buffer.code(i)? == NEWLINE {
             number += 1;

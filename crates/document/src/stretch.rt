@@ -7,6 +7,7 @@ use std::alloc::{AllocFailed, Global};
 use thiserror::Error;
 
 // Why a stretch is not handed out.
+// stays: beside the like enum of `view::rows`; one generic enum would still need a `From` for each fault
 #[derive(Clone, Copy, PartialEq, Eq, Debug, Error)]
 pub enum StretchFault {
     #[error(transparent)]
@@ -48,12 +49,13 @@ pub fn stretch<B: Buffer>(
     ensures { Hands (B.Buffer.doc buffer.now) from to result }
 {
     if to > buffer.len() {
-        return Err(StretchFault::Buffer(BufferFault::PastEnd {
+        return Err(BufferFault::PastEnd {
             place: u64::from(to),
-        }));
+        }
+        .into());
     }
     let mut codes = Vec::new(heap);
-    // stays: by place, since a buffer hands out its codes so
+    // stays: a chain with two `?` is no plainer
     for i in from..to {
         codes.push(buffer.code(i)?)?;
     }

@@ -195,5 +195,11 @@ module _ {V : Type 0} (e : Eyes V) (v v' : V) (lawful : Lawful e v) (lawful' : L
         ∙ ap (λ (z : Change). cond (awake e.most r (e.stack v)) (raised r (text_at e v) (text_at e v') z) z) p
         ∙ ap (λ (z : List Records). cond (awake e.most r (e.stack v)) (raised r (text_at e v) (text_of e.most z (e.doc v')) lower.change) lower.change) i
 
-    pub carried_whole : (lower : Changed) → c ≡ lower.change → e.stack v' ≡ lower.stack → Carried e v r v' q len' top up lower own
-    carried_whole lower p i = record { sound = carried_sound; stack = same_records lower p i; change = same_change lower p i; kept = carried_kept }
+    -- of the layer as it was left, over the view b that is v'
+    pub carried_whole : (lower : Changed) → c ≡ lower.change → e.stack v' ≡ lower.stack → (b : V) (top' : ℕ) (up' : Bool) → b ≡ v' → top' ≡ top → up' ≡ up → Carried e v r b q len' top' up' lower own
+    carried_whole lower p i b top' up' x y z =
+        let P : V → Type 0 = λ k. Carried e v r k q len' top' up' lower own in
+        let Q : ℕ → Type 0 = λ k. Carried e v r v' q len' k up' lower own in
+        let R : Bool → Type 0 = λ k. Carried e v r v' q len' top k lower own in
+        let here : Carried e v r v' q len' top up lower own = record { sound = carried_sound; stack = same_records lower p i; change = same_change lower p i; kept = carried_kept } in
+        subst P (sym x) (subst Q (sym y) (subst R (sym z) here))

@@ -46,6 +46,7 @@ fn grown<K: Kind>(low: u32) -> Option<u32>
 
 // Lets the records of `kind` follow a change that led to the text of `below`, where the layer is awake; sets the length of
 // the own text, and answers its change.
+// stays: handed the fields, not the layer, since between two of them what its type says may be false
 fn carry<V: View, K: Kind>(
     below: &V,
     kind: &mut K,

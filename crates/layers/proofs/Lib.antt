@@ -3,3 +3,4 @@ pub mod Indexing
 pub mod Fitting
 pub mod Carrying
 pub mod Dropping
+pub mod Searching

@@ -1,5 +1,5 @@
 -- Marks put behind those that end by their place, and the first mark that passes taken out, by its index. Assumes nothing.
-use Rattle.std.proofs.Common.{◌≡◌, ℕ, suc, ◌+◌, ◌<◌, ◌≤◌, Ok, Err, Result, Bool, true, false, cond, not, ◌&&◌, ltb, leb, List, [], ◌∷◌, ◌++◌, map, length, get_or, take, drop, sym, refl, ap, ◌∙◌, subst, arith}
+use Rattle.std.proofs.Common.{◌≡◌, ℕ, suc, ◌+◌, ◌<◌, Ok, Err, Result, Bool, true, false, cond, not, ◌&&◌, ltb, leb, List, [], ◌∷◌, ◌++◌, map, length, get_or, take, drop, sym, refl, ap, ◌∙◌, subst, arith}
 use Rattle.std.specs.List.{prefix_len, insert, remove}
 use Rattle.std.specs.Result.{MatchResult, OnOk, OnErr, IsErrAnd, is_ok}
 use Rattle.buffer.specs.Refusals.{told}
@@ -92,10 +92,6 @@ module _ {R T : Type 0} (mark : R → Mark) (xs ys : List R) (x : R) (k : ℕ) (
       let most = prefix_len-le-length (λ m. leb (past m) (mark x).at) (map mark xs) in
       (grind (arith, nat_tests), full_told z f m, err)
 
--- some mark passes where the index of the first that does is one of a record
-pub some_is : {R : Type 0} (p : Mark → Bool) (mark : R → Mark) (xs : List R) (k n : ℕ) → k ≡ prefix_len (λ m. not (p m)) (map mark xs) → n ≡ length xs → ltb k n ≡ some p (map mark xs)
-some_is p mark xs k n k_is n_is = ap (λ (i : ℕ). ltb i n) k_is ∙ ap (ltb (prefix_len (λ m. not (p m)) (map mark xs))) (n_is ∙ sym (length-map xs mark))
-
 -- the record at k, which is the first that passes, is taken out
 pub taken_out : {R : Type 0} (p : Mark → Bool) (mark : R → Mark) (xs ys : List R) (found : R) (k : ℕ) → k ≡ prefix_len (λ m. not (p m)) (map mark xs) → k < length xs → found ≡ get_or xs k found
     → ys ≡ remove xs k
@@ -113,9 +109,3 @@ taken_out p mark xs ys found k k_is inside read now_is =
           ∙ ap (remove (map mark xs)) k_is
           ∙ sym (without_is p (map mark xs) within),
     )
-
--- no mark passes where there is no record at the index of the first that does
-pub none_passes : {R : Type 0} (p : Mark → Bool) (mark : R → Mark) (xs : List R) (k : ℕ) → k ≡ prefix_len (λ m. not (p m)) (map mark xs) → length xs ≤ k → some p (map mark xs) ≡ false
-none_passes p mark xs k k_is past_end =
-    let long = length-map xs mark in
-    grind (arith, nat_tests)

@@ -19,6 +19,7 @@ use view::fault::Cause;
 use view::order::Order;
 use view::view::View;
 
+// A layer of folds.
 pub type Folds = Marks<Fold>;
 
 // Whether `change` drops `record`. Constant time.
@@ -51,12 +52,10 @@ fn reach<R: Record>(table: &Table<R>, change: Change) -> (u32, u32)
 fn is_overlapped(table: &Table<Fold>, a: u32, b: u32) -> bool
     ensures { result ≡ some (overlaps a b) (marks_of fold_mark table.now) }
 {
-    let records = table.records();
-    let apart = records
+    table
+        .records()
         .iter()
-        .take_while(|fold| !(a < fold.past() && fold.place() < b))
-        .count();
-    apart < records.len()
+        .any(|fold| a < fold.past() && fold.place() < b)
 }
 
 impl Marked for Fold {

@@ -18,6 +18,7 @@ use view::fault::Cause;
 use view::order::Order;
 use view::view::View;
 
+// A layer of inlay hints.
 pub type Hints = Marks<Hint>;
 
 // Whether a hint may have `code`: what a document may hold but the newline. Constant time.

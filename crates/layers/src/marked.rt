@@ -15,6 +15,8 @@ use view::fault::Cause;
 use view::order::Order;
 use view::view::View;
 
+// A record of which a layer keeps a table: its verbs, and what differs in the ceiling, in a removal, in an addition and in
+// following a change.
 pub trait Marked: Record {
     // the verb that adds a record, and the one that removes it
     const ADDS: char;
@@ -37,13 +39,14 @@ pub trait Marked: Record {
         ensures { result ≡ meets (records []) l (Self.mark self.now) };
 
     // Lets the records of `table` follow the change `change` that led to the text of `below`, where the text over them had
-    // `len` codes before; answers the change of that text.
+    // `len` codes before; answers the change of that text. A few passes over the records.
     fn follow_all<V: View>(table: &mut Table<Self>, below: &V, len: u32, change: Change) -> Change
         requires { Behind V.Meaning below.now (records (marks_of Self.mark table.old)) change }
         ensures marks { marks_of Self.mark table.new ≡ followed change.start change.old change.new (marks_of Self.mark table.old) }
         ensures raises { Raises (records (marks_of Self.mark table.old)) (text_at V.Meaning below.now) change len result };
 
-    // Carries out an order that adds a record, or says why not.
+    // Carries out an order that adds a record, or says why not. A few passes over the records, a question or two of the
+    // view below, and one pass over `w`.
     fn add<V: View>(
         table: &mut Table<Self>,
         below: &V,

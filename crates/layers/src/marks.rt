@@ -15,6 +15,7 @@ use view::kind::Kind;
 use view::order::Order;
 use view::view::View;
 
+// The layer's table.
 #[derive(Drop)]
 pub struct Marks<R> {
     table: Table<R>,

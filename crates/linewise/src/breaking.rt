@@ -18,7 +18,7 @@ pub fn row_end<V: View>(below: &V, width: u32, start: u32) -> u32
         return start;
     }
     let mut behind_space = None;
-    // stays: by index, since a view is asked for the code at a place
+    // stays: three ways out and the last space kept; a chain is no plainer
     for i in start..len {
         let code = code_at(below, i);
         if is_row_end(code) {

@@ -16,6 +16,7 @@ use view::kind::Kind;
 use view::order::Order;
 use view::view::View;
 
+// The layer's width.
 // stays: the width alone, and the scan that says in its type that the width is in range is made for each walk: the prover does
 // not cover a view over borrowed cells that holds such a struct
 #[derive(Drop)]
@@ -93,7 +94,7 @@ impl<S: Width> Kind for Lines<S> {
     }
 
     fn order<V: View>(&mut self, below: &V, order: Order, w: &[u32]) -> Result<Change, Cause> {
-        if order.x < S::NARROWEST || S::WIDEST < order.x {
+        if !(S::NARROWEST..=S::WIDEST).contains(&order.x) {
             return Err(Cause::OutOfRange {
                 value: u64::from(order.x),
             });

@@ -14,6 +14,7 @@ use crate::width::Width;
 use codes::code::{SPACE, TAB, is_row_end};
 use view::view::View;
 
+// A layer of tab stops.
 pub type Tabs = Lines<Stops>;
 
 // The distance between two stops.

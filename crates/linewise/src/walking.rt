@@ -19,7 +19,7 @@ pub struct Walk<'a, S: Scan, V: View> {
 }
 
 // What stands at a place of the text above: the place below, and the code, 0 at the end.
-// stays: no Option, as for a code past the end of a view; its one reader asks for no code there
+// stays: no Option, since the one reader that takes the code asks for a place before the end
 #[derive(Clone, Copy)]
 pub struct Spot {
     pub under: u32,
@@ -36,7 +36,7 @@ impl<'a, S: Scan, V: View> Walk<'a, S, V> {
     {
         let mut reach = 0;
         let mut state = self.scan.start(self.below);
-        // stays: by index, since a view is asked for the code at a place
+        // stays: a state goes with it, and a `fold` over places is no plainer
         for i in 0..l {
             let code = code_at(self.below, i);
             reach += self.scan.size(state, code);

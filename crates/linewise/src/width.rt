@@ -13,6 +13,7 @@ ghost use Rattle.view.specs.Seen.{text_at};
 use crate::scan::Scan;
 use view::view::View;
 
+// A scan that has a width, between two numbers; an order sets another one.
 pub trait Width: Scan + Copy {
     // the width of a scan, and the records of a layer with a width
     ghost width_of: { Self → ℕ };

@@ -18,6 +18,7 @@ use codes::code::{SOFT_BREAK, is_row_end};
 use view::reading::line_start;
 use view::view::View;
 
+// A layer of soft wrap.
 pub type Wrap = Lines<Breaks>;
 
 // How many codes a row has at most.

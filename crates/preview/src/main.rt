@@ -3,7 +3,7 @@
 #![tactic(auto)]
 
 use buffer::buffer::Buffer;
-use buffer::gap_buffer::open;
+use buffer::gap_buffer::try_open;
 use codes::text::decode_text;
 use layer::layer::Layer;
 use layers::folds::Folds;
@@ -42,13 +42,14 @@ fn show<B: Buffer + Drop>(rt: &HostRuntime, store: B, document: &B) -> anyhow::R
     Ok(())
 }
 
-// stays: the cells are owned where they are lent, so in each program
+// stays: in each program, since the cells are owned where they are lent; a library function would be handed the part
+// program and what shows it, and be no plainer
 fn run(rt: &HostRuntime) -> anyhow::Result<()> {
     let mut cells = decode_text(rt.alloc(), PART_PROGRAM.as_bytes())?;
     let mut copy = decode_text(rt.alloc(), PART_PROGRAM.as_bytes())?;
     let n = cells.len();
-    let document = open(&mut copy, n)?;
-    show(rt, open(&mut cells, n)?, &document)
+    let document = try_open(&mut copy, n)?;
+    show(rt, try_open(&mut cells, n)?, &document)
 }
 
 fn main(rt: HostRuntime) -> anyhow::Result<()> {

@@ -4,7 +4,7 @@ use crate::rows::{each_row, print_numbered};
 use crate::words::place_of;
 use buffer::buffer::Buffer;
 use buffer::fixed_buffer::FixedBuffer;
-use buffer::gap_buffer::open;
+use buffer::gap_buffer::try_open;
 use codes::text::decode_text;
 use std::test::Fail;
 use view::bare::Bare;
@@ -24,7 +24,7 @@ fn rows(rt: HostRuntime) -> Result<(), Fail> {
     for (text, at, joined) in &table {
         let mut cells = decode_text(heap, text.as_bytes())?;
         let n = cells.len();
-        let view = Bare::open(open(&mut cells, n)?);
+        let view = Bare::open(try_open(&mut cells, n)?);
         let mut starts = Vec::new(heap);
         let mut shown = String::new(heap);
         let count = each_row(heap, &view, |start, row| {
@@ -61,7 +61,7 @@ fn words(rt: HostRuntime) -> Result<(), Fail> {
     let heap = rt.alloc();
     let mut cells = decode_text(heap, "N20 N30\nN30".as_bytes())?;
     let n = cells.len();
-    let document = open(&mut cells, n)?;
+    let document = try_open(&mut cells, n)?;
     assert_eq!(rt; place_of(heap, &document, "N30").ok(), Some(4));
     assert_eq!(rt; place_of(heap, &document, "\nN30").ok(), Some(7));
     assert_eq!(rt; place_of(heap, &document, "").ok(), Some(0));
@@ -74,7 +74,7 @@ fn prints(rt: HostRuntime) -> Result<(), Fail> {
     let heap = rt.alloc();
     let mut cells = decode_text(heap, "N20 T1\nN40 Z1. R2.\n".as_bytes())?;
     let n = cells.len();
-    let document = open(&mut cells, n)?;
+    let document = try_open(&mut cells, n)?;
     let mut view = Bare::open(FixedBuffer::new());
     view.edit(0, 0, &[78, 50, 48, 10])?;
     let order = Order {

@@ -3,7 +3,7 @@ use crate::checks::{change, check_shown, check_under, refusal, told, written};
 use buffer::buffer::Buffer;
 use buffer::fault::Refusal;
 use buffer::fixed_buffer::FixedBuffer;
-use buffer::gap_buffer::{GapBuffer, open};
+use buffer::gap_buffer::{GapBuffer, try_open};
 use layer::layer::Layer;
 use layers::folds::Folds;
 use layers::hints::Hints;
@@ -217,7 +217,7 @@ fn soft_wrap_over_soft_wrap(rt: HostRuntime) {
 #[test]
 fn asleep(rt: HostRuntime) -> Result<(), Fail> {
     let mut cells = [97, 9, 98, 0];
-    let mut view = ThreeWrapped::open(open(&mut cells, 3)?);
+    let mut view = ThreeWrapped::open(try_open(&mut cells, 3)?);
     assert_eq!(rt; view.ceiling(), 1_073_741_824);
     assert_eq!(rt; refusal(view.order(0, rows(1), &[])), told(12, 0, 0));
     assert_eq!(rt; view.order(1, rows(4), &[]).ok(), change(0, 9, 11));

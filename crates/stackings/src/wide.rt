@@ -31,11 +31,11 @@ impl<B: Buffer> Buffer for Wide<B> {
     ghost memory = { λ b. B.Buffer.memory b.inner };
 
     fn initial() -> char {
-        'w'
+        Self::LETTER
     }
 
     fn largest() -> u32 {
-        1_073_741_824
+        Self::MOST
     }
 
     fn len(&self) -> u32 {

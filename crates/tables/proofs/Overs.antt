@@ -1,6 +1,7 @@
 -- Places over marks from the sums that code has of the records. Assumes nothing.
-use Rattle.std.proofs.Common.{◌≡◌, ℕ, zero, suc, ◌+◌, ◌-◌, ◌<◌, ◌≤◌, max, Bool, true, false, ltb, leb, List, [], ◌∷◌, map, length, get_or, take, sym, refl, ap, ◌∙◌, subst, arith, Some, slice_get}
+use Rattle.std.proofs.Common.{◌≡◌, ℕ, zero, suc, ◌+◌, ◌-◌, ◌<◌, ◌≤◌, max, Bool, true, false, ltb, leb, List, [], ◌∷◌, map, length, get_or, take, sym, refl, ap, ◌∙◌, subst, true≢false, arith, Option, Some, None, slice_get}
 use Rattle.std.specs.List.{prefix_len}
+use Rattle.std.specs.Option.{MatchOption, is_some, option_copied}
 use Rattle.std.proofs.lemmas.Bool.Decides.{nat_tests}
 use Rattle.std.proofs.lemmas.List.{get_or_default, get_or-map, length-map, take_all}
 use Rattle.std.proofs.lemmas.List.Sums.{prefix_len-le-length, prefix_len_passes, prefix_len_stops}
@@ -12,6 +13,7 @@ use Rattle.places.proofs.Counting.{end_by, taken_more, shown_more, end_more, tak
 use Rattle.places.proofs.Summing.{first_sum, last_sum, last_sum_inside, under_sum, shown_below, under_mark, shown_mark}
 use Rattle.tables.specs.Placing.{text_over, under_over, first_over, last_over, end_of, Counted, Begun, Holds}
 use Rattle.tables.specs.declared.placing.Held.TheVariants.{Shown, Below}
+use denote.Ref.{Bor}
 
 -- where the first marks end, by the last of them
 end_is : (p : ℕ) (ms : List Mark) → end_of p ms ≡ end_by p ms
@@ -25,6 +27,19 @@ end_last mark p (r ∷ []) x e = cc
 end_last mark p (r ∷ s ∷ rs) x e =
     let next : length (r ∷ s ∷ rs) - 1 ≡ suc (length (s ∷ rs) - 1) = omega arith in
     end_last mark (past (mark r)) (s ∷ rs) x (subst (λ (k : ℕ). Some x ≡ slice_get (r ∷ s ∷ rs) k) next e)
+
+-- the same of what `last` gives
+last_there : {R : Type 0} (x : R) (xs : List R) → is_some (slice_get (x ∷ xs) (length (x ∷ xs) - 1)) ≡ true
+last_there x [] = cc
+last_there x (y ∷ ys) =
+    let next : length (x ∷ y ∷ ys) - 1 ≡ suc (length (y ∷ ys) - 1) = omega arith in
+    ap (λ (k : ℕ). is_some (slice_get (x ∷ y ∷ ys) k)) next ∙ last_there y ys
+
+pub end_of_last : {R : Type 0} (mark : R → Mark) (rs : List R) (o : Option (Bor R)) (r : ℕ) → option_copied o ≡ slice_get rs (length rs - 1)
+    → MatchOption o (r ≡ 0) (λ x. r ≡ past (mark x.now)) → r ≡ end_of 0 (map mark rs)
+end_of_last mark [] None r same by = by
+end_of_last mark (x ∷ xs) None r same by = absurd (true≢false (sym (ap is_some same ∙ last_there x xs)))
+end_of_last mark rs (Some x) r same by = by ∙ end_last mark 0 rs x.now same
 
 -- a record that was read, and its mark
 pub mark_read : {R : Type 0} (mark : R → Mark) (rs qs : List R) (i : ℕ) (x : R) → rs ≡ qs → i < length rs → x ≡ get_or rs i x → mark x ≡ get_or (map mark qs) i (mark x)

@@ -7,7 +7,7 @@ use arrayvec::ArrayVec;
 use codes::sums::{Measured, running_sum};
 use places::change::Change;
 
-#[derive(Default, Drop)]
+#[derive(Clone, Default, Drop)]
 pub struct Hint {
     at: u32,
     codes: ArrayVec<u32, 16>,

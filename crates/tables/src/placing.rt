@@ -26,10 +26,7 @@ fn balance(base: u32, more: u64, less: u64) -> u32
 fn end_of<R: Record>(records: &[R]) -> u32
     ensures { result ≡ end_of 0 (map R.Record.mark records.now) }
 {
-    match records.last() {
-        Some(record) => record.past(),
-        None => 0,
-    }
+    records.last().map_or(0, |record| record.past())
 }
 
 // What the first records of a table come to: the place behind what the last of them takes, 0 where there are none, and
@@ -64,6 +61,8 @@ impl Passed {
         u128::from(place) + u128::from(self.shown) <= u128::from(u) + u128::from(self.taken)
     }
 }
+
+// stays: in each contract from here on, what can be counted of the marks and a text, which no struct holds together
 
 // The length of the text over one of `below` codes. One pass over the records.
 pub fn length_over<R: Record>(table: &Table<R>, below: u32) -> u32

@@ -34,7 +34,8 @@ pub trait Record: Default + Drop {
         ensures sent { Room change (mark self.old) → mark self.new ≡ sent change (mark self.old) };
 
     // How many codes the first `n` of `records` show together, and how many they take. One pass.
-    // stays: `running_sum` takes one measure a record: of a hint what it shows, of a fold what it takes.
+    // stays: each kind has its own, since all places go through `running_sum`, which takes one measure a record: of a hint
+    // what it shows, of a fold what it takes
     fn shown_before(records: &[Self], n: usize) -> u64
         requires { length records.now ≤ 64 }
         ensures { result ≡ shown_in (map mark (take n records.now)) };

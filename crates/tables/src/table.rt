@@ -77,6 +77,8 @@ impl<R: Record> Table<R> {
     }
 
     // How many records from the front on end at or before `place`. One pass.
+    // stays: here and in the next two, counted from the front on, over 64 records at most; `partition_point` would ask that
+    // the order is known
     pub fn ended(&self, place: u32) -> usize
         ensures { result ≡ prefix_len (λ m. nat_le (past m) place) (marks_of R.Record.mark self.now) }
     {

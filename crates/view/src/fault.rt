@@ -64,7 +64,7 @@ impl From<BufferFault> for ViewFault {
 
 impl Cause {
     // A cause that arose at the view that was called. Constant time.
-    // stays: no From, since `into` would not say at which layer
+    // stays: no From, since `here` says at which layer, and `into` would not
     pub fn here(self) -> ViewFault
         ensures { result ≡ record { cause = self; layer = 0 } }
     {
@@ -110,11 +110,7 @@ impl ViewFault {
     {
         ViewFault {
             cause: self.cause,
-            layer: if self.layer < 254 {
-                self.layer + 1
-            } else {
-                254
-            },
+            layer: self.layer.saturating_add(1).min(254),
         }
     }
 

@@ -11,7 +11,8 @@ use crate::view::View;
 use places::change::Change;
 
 pub trait Kind: Sized {
-    // stays: each question asks `Over` of the view below and the records, two values that only the layer holds together
+    // stays: each question asks `Over` of the view below and the records; a struct of the two, as a walk is, would have to be
+    // made by the layer at each call and name its kind in the kind's own trait
     ghost records: { Self → Records };
 
     // the records at opening

@@ -7,6 +7,7 @@ use crate::view::View;
 use codes::code::is_row_end;
 
 // The code behind the place `i`, 0 past the end. Costs one question.
+// stays: no Option, since it is asked within the text, where the layers know that there is one
 pub fn code_at<V: View>(below: &V, i: u32) -> u32
     ensures { result ≡ slice_index (text_at V.Meaning below.now) i }
 {
@@ -18,7 +19,7 @@ pub fn line_start<V: View>(below: &V, place: u32) -> u32
     requires { place ≤ length (text_at V.Meaning below.now) }
     ensures { result ≡ line_start (text_at V.Meaning below.now) place }
 {
-    // stays: by place, since a view hands out its codes so
+    // stays: tried as `find` over the places, and the proof did not close
     for i in (0..place).rev() {
         if is_row_end(code_at(below, i)) {
             return i + 1;
@@ -33,7 +34,7 @@ pub fn line_end<V: View>(below: &V, place: u32) -> u32
     ensures { result ≡ line_end (text_at V.Meaning below.now) place }
 {
     let len = below.len();
-    // stays: by place, since a view hands out its codes so
+    // stays: tried as `find` over the places, and the proof did not close
     for i in place..len {
         if is_row_end(code_at(below, i)) {
             return i;

@@ -46,7 +46,7 @@ pub fn row_from<V: View>(heap: Global, view: &V, u: u32) -> Result<Vec<u32>, Row
         return Err(Cause::PastEnd { place: u }.here().into());
     }
     let mut row = Vec::new(heap);
-    // stays: by place, since a view hands out its codes so
+    // stays: a chain with two `?` and an early end is no plainer
     for i in u..len {
         let code = view.code(i)?;
         if is_row_end(code) {

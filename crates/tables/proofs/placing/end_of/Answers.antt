@@ -1,6 +1,6 @@
-use Rattle.std.proofs.Common.{◌∙◌}
-use Rattle.tables.proofs.Overs.{end_last}
+use Rattle.std.proofs.Common.{rules, tests}
+use Rattle.tables.proofs.Overs.{end_of_last}
 use Rattle.tables.proofs.placing.end_of.Goals as goal
 
-pub returns-in-Some : goal.returns-in-Some
-returns-in-Some g c = c.past.ensures ∙ end_last g.R.Record.mark 0 c.args.records.now c.in-Some.record.now c.in-Some.ensures.value
+pub returns : goal.returns
+returns g c = end_of_last g.R.Record.mark c.args.records.now c.last.result c.map_or.result c.last.ensures.value (search (rules, tests))

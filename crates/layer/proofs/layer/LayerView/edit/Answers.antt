@@ -1,4 +1,4 @@
-use Rattle.std.proofs.Common.{◌≡◌, suc, length, Some, Result, rules, sym, ap, ◌∙◌, subst}
+use Rattle.std.proofs.Common.{◌≡◌, suc, length, Some, Result, rules, sym, refl, ap, ◌∙◌, subst}
 use Rattle.std.proofs.lemmas.Result.{err_from_is_err_and}
 use Rattle.buffer.specs.Refusals.{edit_refusal}
 use Rattle.view.specs.Refusals.{view_refusal, deeper}
@@ -55,7 +55,7 @@ invariant_of-self-2 g c =
     let does = subst P (mapped_ok deeper _ (λ e z k. search rules) c.edit.result c.map_err.result own c.map_err.ensures.cases c.in_ok-change.was) c.edit.ensures in
     let low : ceiling_of e.most (e.stack v') ≡ ceiling_of e.most (e.stack v) = ap (ceiling_of e.most) does.3.0 ∙ edit_ceiling e.most (e.stack v) (e.doc v) (e.doc v') by in
     let went = carried_whole e v v' (law v) (law v') r _ _ _ s own does.3.2 low (g.K.Kind.records c.carry.new.kind) c.carry.new.len c.carry.result c.carry.ensures
-    (after_edit e.most (e.stack v) (e.doc v) (e.doc v') by) does.3.1 does.3.0 in
+    (after_edit e.most (e.stack v) (e.doc v) (e.doc v') by) does.3.1 does.3.0 v' _ _ refl refl refl in
     record { sound = went.sound }
 
 pub returns : goal.returns
@@ -72,7 +72,7 @@ returns g c =
     let does = subst P (mapped_ok deeper _ (λ e z k. search rules) c.edit.result c.map_err.result own c.map_err.ensures.cases c.in_ok-change.was) c.edit.ensures in
     let low : ceiling_of e.most (e.stack v') ≡ ceiling_of e.most (e.stack v) = ap (ceiling_of e.most) does.3.0 ∙ edit_ceiling e.most (e.stack v) (e.doc v) (e.doc v') by in
     let went = carried_whole e v v' (law v) (law v') r _ _ _ s own does.3.2 low (g.K.Kind.records c.carry.new.kind) c.carry.new.len c.carry.result c.carry.ensures
-    (after_edit e.most (e.stack v) (e.doc v) (e.doc v') by) does.3.1 does.3.0 in (
+    (after_edit e.most (e.stack v) (e.doc v) (e.doc v') by) does.3.1 does.3.0 v' _ _ refl refl refl in (
       mapped_none (suc (length (e.stack v))) (suc (suc (length (e.stack v)))) (edit_refusal (length (e.doc v)) (e.spare_of v) c.args.a c.args.r c.args.w.now) does.0,
       does.1,
       does.2,

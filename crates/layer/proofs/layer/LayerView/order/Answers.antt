@@ -75,7 +75,7 @@ invariant_of-self-then-k-gt0 g c =
     let does = subst P (mapped_ok (λ f. meant_for c.args.k (deeper f)) _ (λ f z i. search rules) c.order.result c.map_err.result own c.map_err.ensures.cases c.in_ok-change.was) c.order.ensures in
     let low : ceiling_of e.most (e.stack v') ≡ ceiling_of e.most (e.stack v) = ap (ceiling_of e.most) does.3.0 ∙ order_ceiling e.most (e.stack v) (e.doc v) k o w in
     let lower = after_order e.most (e.stack v) (e.doc v) k o w in
-    let went = carried_whole e v v' (law v) (law v') r _ _ _ s own does.3.2 low (g.K.Kind.records c.carry.new.kind) c.carry.new.len c.carry.result c.carry.ensures lower does.3.1 does.3.0 in
+    let went = carried_whole e v v' (law v) (law v') r _ _ _ s own does.3.2 low (g.K.Kind.records c.carry.new.kind) c.carry.new.len c.carry.result c.carry.ensures lower does.3.1 does.3.0 v' _ _ refl refl refl in
     record { sound = went.sound }
 
 pub returns-then-k-gt0 : goal.returns-then-k-gt0
@@ -95,7 +95,7 @@ returns-then-k-gt0 g c =
     let does = subst P (mapped_ok (λ f. meant_for c.args.k (deeper f)) _ (λ f z i. search rules) c.order.result c.map_err.result own c.map_err.ensures.cases c.in_ok-change.was) c.order.ensures in
     let low : ceiling_of e.most (e.stack v') ≡ ceiling_of e.most (e.stack v) = ap (ceiling_of e.most) does.3.0 ∙ order_ceiling e.most (e.stack v) (e.doc v) k o w in
     let lower = after_order e.most (e.stack v) (e.doc v) k o w in
-    let went = carried_whole e v v' (law v) (law v') r _ _ _ s own does.3.2 low (g.K.Kind.records c.carry.new.kind) c.carry.new.len c.carry.result c.carry.ensures lower does.3.1 does.3.0 in (
+    let went = carried_whole e v v' (law v) (law v') r _ _ _ s own does.3.2 low (g.K.Kind.records c.carry.new.kind) c.carry.new.len c.carry.result c.carry.ensures lower does.3.1 does.3.0 v' _ _ refl refl refl in (
       ap (λ (n : ℕ). order_refusal_of e.most (r ∷ e.stack v) (e.doc v) n o w) (sym up) ∙ deeper_none e.most r (e.stack v) (e.doc v) k o w does.0,
       does.1,
       does.2,
