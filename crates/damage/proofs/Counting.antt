@@ -1,5 +1,6 @@
 -- Row ends counted over the parts of a text, and one code further on. Assumes nothing.
-use Rattle.std.proofs.Common.{◌≡◌, ℕ, ◌+◌, ◌-◌, ◌<◌, ◌≤◌, min, max, true, false, cond, List, [], ◌∷◌, ◌++◌, length, get_or, take, drop, sym, refl, ap, ◌∙◌, inl, inr, arith, take-append-drop, take-add}
+use Rattle.std.proofs.Common.{◌≡◌, ℕ, zero, suc, ◌+◌, ◌-◌, ◌<◌, ◌≤◌, min, max, Bool, true, false, cond, List, [], ◌∷◌, ◌++◌, length, get_or, take, drop, sym, refl, ap, ◌∙◌, inl, inr, arith, take-append-drop, take-add}
+use Rattle.std.specs.List.{filter, range_with_len}
 use Rattle.std.proofs.lemmas.List.{take_more, take_all}
 use Rattle.std.proofs.lemmas.Bool.{cases_lt}
 use Rattle.std.proofs.lemmas.Bool.Decides.{nat_tests}
@@ -50,12 +51,6 @@ module _ (t : List ℕ) (i : ℕ) (inside : i < length t) where
   step : ends_before t (i + 1) ≡ ends_before t i + cond (is_row_end (get_or t i 0)) 1 0
   step = ap ends_in (take_more t i 0 inside) ∙ ends_parts (take i t) (get_or t i 0 ∷ [])
 
-  pub ends_here : is_row_end (get_or t i 0) ≡ true → ends_before t (i + 1) ≡ ends_before t i + 1
-  ends_here e = let s = step in grind (arith, nat_tests)
-
-  pub ends_same : is_row_end (get_or t i 0) ≡ false → ends_before t (i + 1) ≡ ends_before t i
-  ends_same e = let s = step in grind (arith, nat_tests)
-
 -- counting stops at the end of the text
 pub ends_capped : (t : List ℕ) (v m w : ℕ) → length t ≤ m → w ≡ min v m → ends_before t w ≡ ends_before t v
 ends_capped t v m w h e =
@@ -85,3 +80,22 @@ module _ (most : ℕ) (rs : List Records) (d : List ℕ) (m : Means most rs d) w
 
   pub ends_few : (v : ℕ) → ends_before (text_of most rs d) v ≤ highest_ceiling
   ends_few v = omega (arith, codes_few, ends_le (text_of most rs d), ends_within (text_of most rs d) v)
+
+-- the row ends among n places from one on
+module _ (t : List ℕ) where
+  filter_step : (b : Bool) (x n : ℕ) (xs : List ℕ) → length xs ≡ n → length (cond b (x ∷ xs) xs) ≡ cond b 1 0 + n
+  filter_step true x n xs e = omega (arith, e)
+  filter_step false x n xs e = omega (arith, e)
+
+  pub ends_filtered : (n from : ℕ) → n ≤ length t - from → length (filter (λ i. is_row_end (get_or t i 0)) (range_with_len from n)) + ends_before t from ≡ ends_before t (from + n)
+  ends_filtered zero from l =
+      let none : 0 + ends_before t from ≡ ends_before t from = omega arith in
+      let here : from ≡ from + 0 = omega arith in
+      none ∙ ap (ends_before t) here
+  ends_filtered (suc n) from l =
+      let inside : from < length t = omega arith in
+      let rest = ends_filtered n (from + 1) (omega arith) in
+      let on : from + suc n ≡ from + 1 + n = omega arith in
+      let next = step t from inside in
+      let first = filter_step (is_row_end (get_or t from 0)) from _ (filter (λ i. is_row_end (get_or t i 0)) (range_with_len (from + 1) n)) refl in
+      omega (arith, rest, first, next, ap (ends_before t) on)

@@ -14,14 +14,9 @@ use view::view::View;
 fn ends_between<V: View>(view: &V, from: u32, to: u32) -> u32
     ensures { result ≡ ends_before (text_at V.Meaning view.now) to - ends_before (text_at V.Meaning view.now) from }
 {
-    let mut ends = 0;
-    // stays: a number of 32 bits, where `filter` and `count` give a `usize` that had to be cut
-    for i in from..to.min(view.len()) {
-        if is_row_end(code_at(view, i)) {
-            ends += 1;
-        }
-    }
-    ends
+    (from..to.min(view.len()))
+        .filter(|i| is_row_end(code_at(view, *i)))
+        .count() as u32
 }
 
 // The row ends among the first `v` codes of the text, or among all where there are fewer: the number of the row that holds

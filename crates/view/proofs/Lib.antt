@@ -1,2 +1,3 @@
 pub mod Answering
 pub mod Editing
+pub mod Ending

@@ -19,13 +19,10 @@ pub fn line_start<V: View>(below: &V, place: u32) -> u32
     requires { place ≤ length (text_at V.Meaning below.now) }
     ensures { result ≡ line_start (text_at V.Meaning below.now) place }
 {
-    // stays: tried as `find` over the places, and the proof did not close
-    for i in (0..place).rev() {
-        if is_row_end(code_at(below, i)) {
-            return i + 1;
-        }
-    }
-    0
+    (0..place)
+        .rev()
+        .find(|i| is_row_end(code_at(below, *i)))
+        .map_or(0, |i| i + 1)
 }
 
 // Where the line that holds `place` ends. Costs a question for each code of the line behind it.
@@ -34,11 +31,7 @@ pub fn line_end<V: View>(below: &V, place: u32) -> u32
     ensures { result ≡ line_end (text_at V.Meaning below.now) place }
 {
     let len = below.len();
-    // stays: tried as `find` over the places, and the proof did not close
-    for i in place..len {
-        if is_row_end(code_at(below, i)) {
-            return i;
-        }
-    }
-    len
+    (place..len)
+        .find(|i| is_row_end(code_at(below, *i)))
+        .unwrap_or(len)
 }

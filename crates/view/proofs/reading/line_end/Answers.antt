@@ -1,24 +1,12 @@
-use Rattle.std.proofs.Common.{◌≡◌, true, false, get_or, sym, ap, ◌∙◌, arith}
+use Rattle.std.proofs.Common.{◌≡◌, true, false, get_or, rules, tests}
+use Rattle.std.proofs.lemmas.Iterator.{first_from_Range}
 use Rattle.codes.specs.Codes.{is_row_end}
 use Rattle.view.specs.Seen.{text_at}
-use Rattle.lines.proofs.Stepping.{end_all, end_here, end_more}
+use Rattle.view.proofs.Ending.{ends_first}
 use Rattle.view.proofs.reading.line_end.Goals as goal
-
-pub returns-then-is_row_end : goal.returns-then-is_row_end
-returns-then-is_row_end g c =
-    let t = text_at g.V.Meaning c.args.below.now in
-    let ends : is_row_end (get_or t c.loop-i.i 0) ≡ true = ap is_row_end (sym c.code_at.ensures) ∙ sym c.is_row_end.ensures ∙ c.if-is_row_end.true in
-    sym (end_here t c.loop-i.i (omega arith) ends) ∙ c.loop-i.invariant
-
-pub loop-i-preserved : goal.loop-i-preserved
-loop-i-preserved g c =
-    let t = text_at g.V.Meaning c.args.below.now in
-    let goes : is_row_end (get_or t c.loop-i.i 0) ≡ false = ap is_row_end (sym c.code_at.ensures) ∙ sym c.is_row_end.ensures ∙ c.if-is_row_end.false in
-    end_more t c.loop-i.i (omega arith) goes ∙ c.loop-i.invariant
 
 pub returns : goal.returns
 returns g c =
     let t = text_at g.V.Meaning c.args.below.now in
-    let e = end_all t c.loop-i.i (omega arith) in
-    let i = c.loop-i.invariant in
-    omega arith
+    ends_first t c.args.place c.len-len.result c.find.result _ c.requires c.len-len.ensures c.unwrap_or.ensures
+    (first_from_Range _ _ _ _ (λ i. is_row_end (get_or t i 0) ≡ true) (λ i. is_row_end (get_or t i 0) ≡ false) c.find.ensures.ran (λ x q k. search (rules, tests)) (λ x q k. search (rules, tests)))
