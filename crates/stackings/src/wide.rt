@@ -31,11 +31,11 @@ impl<B: Buffer> Buffer for Wide<B> {
     ghost memory = { λ b. B.Buffer.memory b.inner };
 
     fn initial() -> char {
-        Self::LETTER
+        'w'
     }
 
     fn largest() -> u32 {
-        Self::MOST
+        1_073_741_824
     }
 
     fn len(&self) -> u32 {
