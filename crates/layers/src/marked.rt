@@ -17,7 +17,7 @@ use view::view::View;
 
 // A record of which a layer keeps a table: its verbs, and what differs in the ceiling, in a removal, in an addition and in
 // following a change.
-pub trait Marked: Record {
+pub trait Marked: Record + Default {
     // the verb that adds a record, and the one that removes it
     const ADDS: char;
 

@@ -34,7 +34,7 @@ impl<R: Marked> Kind for Marks<R> {
 
     fn new() -> Marks<R> {
         Marks {
-            table: Table::new(),
+            table: Table::new(R::default()),
         }
     }
 

@@ -1,4 +1,5 @@
 pub mod Marking
 pub mod Tables
-pub mod Following
+pub mod Shifting
+pub mod Sweeping
 pub mod Overs

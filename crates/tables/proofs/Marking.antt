@@ -1,6 +1,6 @@
 -- What records show and take together. Assumes nothing.
-use Rattle.std.proofs.Common.{◌≡◌, ℕ, ◌+◌, min, List, [], ◌∷◌, map, length, take, sum_by, refl, ap, ◌∙◌, arith}
-use Rattle.std.proofs.lemmas.List.{length-take}
+use Rattle.std.proofs.Common.{◌≡◌, ℕ, ◌+◌, min, List, [], ◌∷◌, ◌++◌, map, length, take, sum_by, refl, ap, ◌∙◌, arith}
+use Rattle.std.proofs.lemmas.List.{length-take, take_at}
 use Rattle.std.proofs.lemmas.List.Sums.{sum_by-cons}
 use Rattle.places.specs.Marks.{Mark, shown_in, taken_in}
 use Rattle.tables.specs.declared.hint.Hint.{Hint}
@@ -26,3 +26,9 @@ folds_show (x ∷ xs) = omega (arith, folds_show xs)
 
 pub first_folds_show : (n : ℕ) (xs : List Fold) → shown_in (map fold_mark (take n xs)) ≡ min n (length xs)
 first_folds_show n xs = folds_show (take n xs) ∙ length-take n xs
+
+-- a hint whose cells begin with w and whose length is that of w
+pub hint_shows : (at : ℕ) (w cells rest : List ℕ) → cells ≡ w → hint_mark record { at = at; len = length w; codes = cells ++ rest } ≡ record { at = at; takes = 0; shows = w }
+hint_shows at w cells rest e =
+    let front : take (length w) (cells ++ rest) ≡ w = ap (λ (z : List ℕ). take (length w) (z ++ rest)) e ∙ take_at w rest (length w) refl in
+    ap {B = Mark} (λ (s : List ℕ). record { at = at; takes = 0; shows = s }) front

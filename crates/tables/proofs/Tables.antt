@@ -1,9 +1,10 @@
--- Searches of a table, which ask the marks of its records. Assumes nothing.
-use Rattle.std.proofs.Common.{◌≡◌, ℕ, ◌+◌, Bool, false, cond, List, [], ◌∷◌, map, length, sym, refl, ap, ◌∙◌}
+-- The records of a table, and its searches, which ask their marks. Assumes nothing.
+use Rattle.std.proofs.Common.{◌≡◌, ℕ, ◌+◌, Bool, false, cond, List, [], ◌∷◌, map, length, take, sym, refl, ap, ◌∙◌, arith, rules}
 use Rattle.std.proofs.iter.Yields.{fronts}
 use Rattle.std.proofs.lemmas.Iterator.{YieldsList-from_slice}
 use Rattle.std.proofs.lemmas.Iterator.Consumers.{count_from_yields_List}
 use Rattle.std.proofs.lemmas.Iterator.Search.{YieldsList-from_take_while}
+use Rattle.std.proofs.lemmas.List.{same_lists, places}
 use Rattle.std.proofs.lemmas.List.Folds.{length-prefix_len}
 use Rattle.std.specs.declared.iter.TakeWhile.{TakeWhile}
 use Rattle.std.specs.declared.slice.Iter.{Iter}
@@ -15,6 +16,13 @@ use Rattle.std.specs.Slice.Iter.{iter_rest}
 use Rattle.places.specs.Marks.{Mark}
 use denote.Param.Members.{Mut}
 use denote.Ref.{Bor}
+
+-- the first n, where n is how many the first `count` are
+pub records_cut : {X : Type 0} (xs : List X) (count n : ℕ) → n ≡ length (take count xs) → take n xs ≡ take count xs
+records_cut xs count n e =
+    same_lists (take n xs) (take count xs)
+    (search (rules, places))
+    (λ k d h. grind (arith, places))
 
 pub prefix_len-map : {X Y : Type 0} (p : Y → Bool) (f : X → Y) (xs : List X) → prefix_len p (map f xs) ≡ prefix_len (λ x. p (f x)) xs
 prefix_len-map p f [] = refl

@@ -1,11 +1,11 @@
 -- What an inlay hint means. Assumes nothing.
-use Rattle.std.specs.Prelude.{ℕ, Bool, ◌&&◌, List, length, nat_le}
+use Rattle.std.specs.Prelude.{ℕ, Bool, ◌&&◌, List, length, take, nat_le}
 use Rattle.places.specs.Marks.{Mark}
 use Rattle.tables.specs.declared.hint.Hint.{Hint}
 
 -- it takes nothing, and shows its codes
 abbrev pub hint_mark : Hint → Mark
-hint_mark h = record { at = h.at; takes = 0; shows = h.codes.items }
+hint_mark h = record { at = h.at; takes = 0; shows = take h.len h.codes }
 
 -- the codes that a hint can show
 abbrev pub hintable : List ℕ → Bool

@@ -3,14 +3,15 @@ ghost use Rattle.std.specs.Prelude.{◌≡◌, true, false, [], length, MatchOpt
 ghost use Rattle.tables.specs.Hints.{hint_mark, hintable};
 
 use crate::record::Record;
-use arrayvec::ArrayVec;
 use codes::sums::{Measured, running_sum};
 use places::change::Change;
 
-#[derive(Clone, Default, Drop)]
+// stays: sixteen cells and a length inside; an `ArrayVec` is not `Copy`
+#[derive(Clone, Copy, Default)]
 pub struct Hint {
     at: u32,
-    codes: ArrayVec<u32, 16>,
+    len: u32,
+    codes: [u32; 16],
 }
 
 impl Hint {
@@ -18,11 +19,16 @@ impl Hint {
     pub fn new(at: u32, w: &[u32]) -> Option<Hint>
         ensures { MatchOption result (hintable w.now ≡ false) (λ h. (hintable w.now ≡ true) × (hint_mark h ≡ record { at = at; takes = 0; shows = w.now })) }
     {
-        if w.is_empty() {
+        if w.is_empty() || w.len() > 16 {
             return None;
         }
-        let codes = ArrayVec::try_from(w).ok()?;
-        Some(Hint { at, codes })
+        let mut codes = [0; 16];
+        codes[..w.len()].copy_from_slice(w);
+        Some(Hint {
+            at,
+            len: w.len() as u32,
+            codes,
+        })
     }
 }
 
@@ -30,7 +36,7 @@ impl Measured for Hint {
     ghost size = { λ h. length (hint_mark h).shows };
 
     fn measure(&self) -> u32 {
-        self.codes.len() as u32
+        self.len.min(16)
     }
 }
 

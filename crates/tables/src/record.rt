@@ -5,7 +5,7 @@ ghost use Rattle.tables.specs.Records.{lives, sent, Room};
 
 use places::change::Change;
 
-pub trait Record: Default + Drop {
+pub trait Record: Copy {
     // what it means
     ghost mark: { Self → Mark };
 

@@ -6,22 +6,27 @@ ghost use Rattle.tables.specs.Records.{Room};
 ghost use Rattle.tables.specs.Tables.{records_of, marks_of};
 
 use crate::record::Record;
-use arrayvec::ArrayVec;
 use places::change::Change;
 
-// The records, which lie in the table itself.
+// How many records a table keeps.
+const MOST_RECORDS: usize = 64;
+
+// The first `count` of the items are the records, all 64 where `count` is more, so that every value means a table.
+// stays: items and a count, since an `ArrayVec` asks a `Default` of each record, and records are asked no more than `Copy`
 #[derive(Drop)]
 pub struct Table<R> {
-    items: ArrayVec<R, 64>,
+    items: [R; MOST_RECORDS],
+    count: usize,
 }
 
 impl<R: Record> Table<R> {
-    // A table with no records. Constant time.
-    pub fn new() -> Table<R>
+    // A table with no records; `filler` stands where none is kept. Constant time.
+    pub fn new(filler: R) -> Table<R>
         ensures { marks_of R.Record.mark result ≡ [] }
     {
         Table {
-            items: ArrayVec::new(),
+            items: [filler; MOST_RECORDS],
+            count: 0,
         }
     }
 
@@ -30,7 +35,7 @@ impl<R: Record> Table<R> {
         ensures value { result.now ≡ records_of self.now }
         ensures few { length result.now ≤ 64 }
     {
-        &self.items
+        &self.items[..self.count.min(MOST_RECORDS)]
     }
 
     // How many records are kept. Constant time.
@@ -38,7 +43,7 @@ impl<R: Record> Table<R> {
         ensures value { result ≡ length (records_of self.now) }
         ensures few { result ≤ 64 }
     {
-        self.items.len()
+        self.count.min(MOST_RECORDS)
     }
 
     // Puts `record` before the one at `k`, or at the end. Handed back, and nothing changed, where 64 are kept already or
@@ -49,12 +54,14 @@ impl<R: Record> Table<R> {
         ensures err { OnErr result (self.new ≡ self.old) }
         ensures handed_back { IfErr result (λ refused. refused ≡ «record») }
     {
-        if k > self.len() {
+        let count = self.len();
+        if count == MOST_RECORDS || k > count {
             return Err(record);
         }
-        self.items
-            .try_insert(k, record)
-            .map_err(|full| full.element())
+        self.items.copy_within(k..count, k + 1);
+        self.items[k] = record;
+        self.count = count + 1;
+        Ok(())
     }
 
     // Takes the record at `k` out; nothing is changed where there is none. Moves the records behind it.
@@ -64,7 +71,11 @@ impl<R: Record> Table<R> {
         ensures records { records_of self.new ≡ remove (records_of self.old) k }
         ensures none { IfNone result (self.new ≡ self.old) }
     {
-        self.items.pop_at(k)
+        let record = *self.records().get(k)?;
+        let count = self.len();
+        self.items.copy_within(k + 1..count, k);
+        self.count = count - 1;
+        Some(record)
     }
 
     // Lets every record follow a change of the text below, and drops those that do not live on. One pass.
@@ -73,7 +84,16 @@ impl<R: Record> Table<R> {
         ensures followed { marks_of R.Record.mark self.new ≡ followed change.start change.old change.new (marks_of R.Record.mark self.old) }
         ensures fewer { length (records_of self.new) ≤ length (records_of self.old) }
     {
-        self.items.retain(|record| record.follow(change));
+        let count = self.len();
+        let mut kept = 0;
+        // stays: each record is lent to the function that moves it; a slice has no `retain`
+        for i in 0..count {
+            if self.items[i].follow(change) {
+                self.items[kept] = self.items[i];
+                kept += 1;
+            }
+        }
+        self.count = kept;
     }
 
     // How many records from the front on end at or before `place`. One pass.
@@ -82,7 +102,7 @@ impl<R: Record> Table<R> {
     pub fn ended(&self, place: u32) -> usize
         ensures { result ≡ prefix_len (λ m. nat_le (past m) place) (marks_of R.Record.mark self.now) }
     {
-        self.items
+        self.records()
             .iter()
             .take_while(|record| record.past() <= place)
             .count()
@@ -92,7 +112,7 @@ impl<R: Record> Table<R> {
     pub fn begun(&self, place: u32) -> usize
         ensures { result ≡ prefix_len (λ m. nat_lt m.at place) (marks_of R.Record.mark self.now) }
     {
-        self.items
+        self.records()
             .iter()
             .take_while(|record| record.place() < place)
             .count()
@@ -102,7 +122,7 @@ impl<R: Record> Table<R> {
     pub fn reached(&self, place: u32) -> usize
         ensures { result ≡ prefix_len (λ m. nat_le m.at place) (marks_of R.Record.mark self.now) }
     {
-        self.items
+        self.records()
             .iter()
             .take_while(|record| record.place() <= place)
             .count()
@@ -125,7 +145,7 @@ mod tests {
     fn after<R: Record>(a: R, b: R, c: R, change: Change) -> Table<R>
         requires { AllByRecursion (λ x. Room change (R.Record.mark x)) (a ∷ b ∷ c ∷ []) }
     {
-        let mut table = Table::new();
+        let mut table = Table::new(a);
         let _ = table.insert(0, c);
         let _ = table.insert(0, b);
         let _ = table.insert(0, a);
@@ -173,7 +193,7 @@ mod tests {
 
     #[test]
     fn inserts_and_removes(rt: HostRuntime) {
-        let mut table = Table::new();
+        let mut table = Table::new(Fold::new(0, 1));
         assert!(rt; table.remove(0).is_none());
         assert!(rt; table.insert(1, Fold::new(5, 6)).is_err());
         assert!(rt; table.insert(0, Fold::new(5, 6)).is_ok());
