@@ -1,5 +1,4 @@
 pub mod Codes
-pub mod Encoded
 pub mod Search
 pub mod Sums
 pub mod Texts

@@ -1,9 +1,8 @@
 // UTF-8 as RFC 3629 has it, code by code, both ways.
-ghost use Rattle.std.specs.Prelude.{◌≡◌, ℕ, ◌≤◌, true, false, List, ◌++◌, length, IfSome, MatchOption};
+ghost use Rattle.std.specs.Prelude.{◌≡◌, ℕ, ◌≤◌, true, false, List, ◌++◌, length, take, IfSome, MatchOption};
 ghost use Rattle.std.proofs.Math.Utf8.{scalar as is_scalar, encode as bytes_of};
 ghost use Rattle.codes.specs.Utf8.{decoded, Tells, is_lead, lead_bits, tail_count, tail_low, tail_high, tail_of};
 
-use std::marker::Model;
 use thiserror::Error;
 
 // A code that bytes begin with, and the number of its bytes.
@@ -97,33 +96,19 @@ pub fn decode(bytes: &[u8]) -> Result<Decoded, DecodeFault>
 }
 
 // The one to four bytes of a code.
-// stays: four cells and a length inside, a list to callers; an `ArrayVec` is not `Copy`
+// stays: four cells and a length inside, which clauses name; an `ArrayVec` is not `Copy`, and a struct with an `impl Model` is
+// not copied by value or carried beside a `&str` by `?`
 #[derive(Clone, Copy)]
 pub struct Encoded {
     bytes: [u8; 4],
     len: usize,
-}
-
-impl Model for Encoded {
-    ghost use Rattle.std.specs.Prelude.{List, ℕ};
-
-    ghost Value = { List ℕ };
-
-    ghost use Rattle.codes.specs.Encoded.{front, IsPadded, cells_of, cells_of-front};
-
-    ghost view = { front };
-
-    ghost invariant = { IsPadded };
-
-    ghost inverse = { cells_of };
-
-    ghost inverse_ok = { cells_of-front };
+    ghost fits: { len ≤ 4 },
 }
 
 impl Encoded {
     // The bytes themselves. Constant time.
     pub fn as_slice(&self) -> &[u8]
-        ensures value { result.now ≡ self.now }
+        ensures value { result.now ≡ take self.now.len self.now.bytes }
         ensures few { length result.now ≤ 4 }
     {
         &self.bytes[0..self.len]
@@ -133,8 +118,8 @@ impl Encoded {
 // The bytes of `code`, which read back are that code again, whatever stands behind them; none for a surrogate and for
 // what lies past the last code of Unicode. Constant time.
 pub fn encode(code: u32) -> Option<Encoded>
-    ensures value { MatchOption result (is_scalar code ≡ false) (λ bytes. (is_scalar code ≡ true) × (bytes ≡ bytes_of code)) }
-    ensures back { IfSome result (λ bytes. (rest : List ℕ) → decoded (bytes ++ rest) ≡ Ok (record { code = code; len = length bytes })) }
+    ensures value { MatchOption result (is_scalar code ≡ false) (λ e. (is_scalar code ≡ true) × (take e.len e.bytes ≡ bytes_of code)) }
+    ensures back { IfSome result (λ e. (rest : List ℕ) → decoded (take e.len e.bytes ++ rest) ≡ Ok (record { code = code; len = e.len })) }
 {
     let second = (0x80 + code / 4096 % 64) as u8;
     let third = (0x80 + code / 64 % 64) as u8;
