@@ -14,11 +14,11 @@ pub decides_yes : {P : Type 0} → P → Decides true P
 decides_yes p = (λ _. p, λ _. refl)
 
 module _ (d w : List ℕ) (u : ℕ) where
-  stands_code : StandsAt d w u → (k : ℕ) → k < length w → get_or d (u + k) 0 ≡ get_or w k 0
+  pub stands_code : StandsAt d w u → (k : ℕ) → k < length w → get_or d (u + k) 0 ≡ get_or w k 0
   stands_code s k h =
       sym (get_or-drop u d k 0) ∙ sym (get_or-take (length w) (drop u d) k 0 h) ∙ ap (λ (v : List ℕ). get_or v k 0) s.1
 
-  stands_from : u + length w ≤ length d → ((k : ℕ) → k < length w → get_or d (u + k) 0 ≡ get_or w k 0) → StandsAt d w u
+  pub stands_from : u + length w ≤ length d → ((k : ℕ) → k < length w → get_or d (u + k) 0 ≡ get_or w k 0) → StandsAt d w u
   stands_from l each =
       let n = length-take (length w) (drop u d) in
       let m = length-drop u d in

@@ -19,6 +19,12 @@ fn stands_at<B: Buffer>(buffer: &B, word: &[u32], place: u32) -> bool
     if place > len || word.len() > (len - place) as usize {
         return false;
     }
+    // the first code by itself, since most places differ there, and the walk through the word costs more to begin
+    if let Some(first) = word.first()
+        && !has_code(buffer, place, *first)
+    {
+        return false;
+    }
     word.iter()
         .zip(place..len)
         .all(|(code, at)| has_code(buffer, at, *code))

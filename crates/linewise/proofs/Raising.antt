@@ -12,7 +12,7 @@ use Rattle.lines.proofs.Scanning.{first_reach}
 use Rattle.view.specs.Layers.{Records, pieces, shown, first, lines_raised}
 use Rattle.linewise.specs.Scans.{ByNew}
 
-same_numbers : (s o n s' o' n' : ℕ) → s ≡ s' → o ≡ o' → n ≡ n' → ◌≡◌ {A = Change} (record { start = s; old = o; new = n }) (record { start = s'; old = o'; new = n' })
+pub same_numbers : (s o n s' o' n' : ℕ) → s ≡ s' → o ≡ o' → n ≡ n' → ◌≡◌ {A = Change} (record { start = s; old = o; new = n }) (record { start = s'; old = o'; new = n' })
 same_numbers s o n s' o' n' e f g = cc
 
 same_change : (c : Change) (s o n : ℕ) → c.start ≡ s → c.old ≡ o → c.new ≡ n → c ≡ record { start = s; old = o; new = n }
