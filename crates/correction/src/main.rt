@@ -2,10 +2,10 @@
 // and after; then tries an edit that no document takes, and shows that it changed nothing.
 #![tactic(auto)]
 
-use anyhow::Context;
+use anyhow::{Context, anyhow};
 use buffer::buffer::Buffer;
 use buffer::fault::{BufferFault, Refusal};
-use buffer::gap_buffer::{GapBuffer, try_open};
+use buffer::gap_buffer::{GapBuffer, open};
 use codes::text::{decode_text, encode_text};
 use document::find::find;
 use document::lines::line_at;
@@ -36,9 +36,13 @@ const RIGHT: &str = "Z-45.";
 // A depth with an escape in it, which no document holds.
 const GARBLED: &str = "Z-4\u{1b}5.";
 
+fn codes_of(heap: Global, text: &str) -> anyhow::Result<Vec<u32>> {
+    decode_text(heap, text.as_bytes()).map_err(|_| anyhow!("no memory for a text"))
+}
+
 fn text_between(heap: Global, buffer: &GapBuffer, from: u32, to: u32) -> anyhow::Result<String> {
-    let codes = stretch(heap, buffer, from, to)?;
-    Ok(encode_text(heap, &codes)?)
+    let codes = stretch(heap, buffer, from, to).map_err(|_| anyhow!("no memory for a stretch"))?;
+    encode_text(heap, &codes).map_err(|_| anyhow!("no memory for a line"))
 }
 
 fn show_line(rt: &HostRuntime, title: &str, buffer: &GapBuffer, place: u32) -> anyhow::Result<()> {
@@ -54,8 +58,8 @@ fn show_refusal(rt: &HostRuntime, fault: BufferFault) -> io::Result<()> {
 
 // Replaces the first WRONG by RIGHT, and answers where it stood.
 fn correct(rt: &HostRuntime, buffer: &mut GapBuffer) -> anyhow::Result<u32> {
-    let wrong = decode_text(rt.alloc(), WRONG.as_bytes())?;
-    let right = decode_text(rt.alloc(), RIGHT.as_bytes())?;
+    let wrong = codes_of(rt.alloc(), WRONG)?;
+    let right = codes_of(rt.alloc(), RIGHT)?;
     let place = find(buffer, &wrong, 0).context("the wrong depth is not in the program")?;
     show_line(rt, "before:", buffer, place)?;
     let removed = u32::try_from(wrong.len())?;
@@ -68,7 +72,7 @@ fn correct(rt: &HostRuntime, buffer: &mut GapBuffer) -> anyhow::Result<u32> {
 
 // Tries to put GARBLED in at `place`, and compares the document before and after.
 fn try_garbled(rt: &HostRuntime, buffer: &mut GapBuffer, place: u32) -> anyhow::Result<()> {
-    let garbled = decode_text(rt.alloc(), GARBLED.as_bytes())?;
+    let garbled = codes_of(rt.alloc(), GARBLED)?;
     let before = text_between(rt.alloc(), buffer, 0, buffer.len())?;
     match buffer.edit(place, 0, &garbled) {
         Ok(()) => println!(rt; "taken, which it must not be")?,
@@ -85,13 +89,14 @@ fn try_garbled(rt: &HostRuntime, buffer: &mut GapBuffer, place: u32) -> anyhow::
 }
 
 fn run(rt: &HostRuntime) -> anyhow::Result<()> {
-    let mut cells = decode_text(rt.alloc(), PART_PROGRAM.as_bytes())?;
+    let mut cells = codes_of(rt.alloc(), PART_PROGRAM)?;
     let n = cells.len();
     cells.extend_from_slice(&[0; ROOM])?;
-    let mut buffer = match try_open(&mut cells, n) {
-        Ok(buffer) => buffer,
-        Err(fault) => return Ok(show_refusal(rt, fault)?),
-    };
+    let opened = open(&mut cells, n);
+    if let Some(fault) = opened.refused {
+        return Ok(show_refusal(rt, fault)?);
+    }
+    let mut buffer = opened.buffer;
     let (len, spare) = (buffer.len(), buffer.spare());
     println!(rt; "opened: {len} codes in a gap buffer, spare {spare}")?;
     let place = correct(rt, &mut buffer)?;

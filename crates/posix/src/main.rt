@@ -55,7 +55,9 @@ impl Block {
 
     // Puts `line` and a newline behind the text.
     fn add(&mut self, heap: Global, line: &str) -> anyhow::Result<()> {
-        let codes = decode_text(heap, line.as_bytes())?;
+        let codes = decode_text(heap, line.as_bytes()).map_err(|_| anyhow!(
+            "no memory for a line"
+        ))?;
         self.text.extend_from_slice(&codes)?;
         self.text.push(NEWLINE)?;
         Ok(())

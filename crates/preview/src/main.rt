@@ -3,13 +3,13 @@
 #![tactic(auto)]
 
 use buffer::buffer::Buffer;
-use buffer::gap_buffer::try_open;
-use codes::text::decode_text;
+use buffer::gap_buffer::open;
 use layer::layer::Layer;
 use layers::folds::Folds;
 use layers::hints::Hints;
 use printing::orders::arrange;
 use printing::rows::print_numbered;
+use printing::words::codes_of;
 use view::bare::Bare;
 use view::view::View;
 
@@ -45,11 +45,15 @@ fn show<B: Buffer + Drop>(rt: &HostRuntime, store: B, document: &B) -> anyhow::R
 // stays: in each program, since the cells are owned where they are lent; a library function would be handed the part
 // program and what shows it, and be no plainer
 fn run(rt: &HostRuntime) -> anyhow::Result<()> {
-    let mut cells = decode_text(rt.alloc(), PART_PROGRAM.as_bytes())?;
-    let mut copy = decode_text(rt.alloc(), PART_PROGRAM.as_bytes())?;
+    let mut cells = codes_of(rt.alloc(), PART_PROGRAM)?;
+    let mut copy = codes_of(rt.alloc(), PART_PROGRAM)?;
     let n = cells.len();
-    let document = try_open(&mut copy, n)?;
-    show(rt, try_open(&mut cells, n)?, &document)
+    let document = open(&mut copy, n).buffer;
+    let opened = open(&mut cells, n);
+    if let Some(fault) = opened.refused {
+        return Err(fault.into());
+    }
+    show(rt, opened.buffer, &document)
 }
 
 fn main(rt: HostRuntime) -> anyhow::Result<()> {

@@ -2,10 +2,9 @@
 ghost use Rattle.std.specs.Prelude.{◌≡◌, IfOk};
 ghost use Rattle.printing.specs.Orders.{Obeyed, Arranged};
 
-use crate::words::place_of;
+use crate::words::{codes_of, place_of};
 use buffer::buffer::Buffer;
 use buffer::fault::Refusal;
-use codes::text::decode_text;
 use std::io;
 use view::order::Order;
 use view::view::View;
@@ -45,7 +44,7 @@ pub fn arrange<V: View, B: Buffer>(
     ensures stays { V.Meaning.doc view.new ≡ V.Meaning.doc view.old }
 {
     let heap = rt.alloc();
-    let hint = decode_text(heap, " (depth)".as_bytes())?;
+    let hint = codes_of(heap, " (depth)")?;
     let add = Order {
         verb: 'i',
         x: place_of(heap, document, " R2.")?,

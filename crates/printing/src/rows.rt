@@ -1,15 +1,24 @@
 // The rows of a view, one after the other.
-ghost use Rattle.std.specs.Prelude.{◌≡◌, length, IfOk};
+ghost use Rattle.std.specs.Prelude.{◌≡◌, length, string_bytes, IfOk};
+ghost use Rattle.std.proofs.Math.Utf8.{encodes};
 ghost use Rattle.lines.specs.Rows.{rows};
 ghost use Rattle.view.specs.Seen.{text_at};
 ghost use Rattle.printing.specs.Visits.{VisitsRows};
 
+use anyhow::anyhow;
 use buffer::buffer::Buffer;
 use codes::text::encode_text;
 use document::lines::line_at;
 use std::alloc::Global;
 use view::rows::row_from;
 use view::view::View;
+
+// The bytes of `row`, or an error where memory runs out. One pass.
+fn text_of(heap: Global, row: &[u32]) -> anyhow::Result<String>
+    ensures { IfOk result (λ text. string_bytes text ≡ encodes row.now) }
+{
+    encode_text(heap, row).map_err(|_| anyhow!("no memory for a text"))
+}
 
 // Hands each row's start and text to `visit`, from the first row on, and answers how many rows there are; an error stops
 // it. Costs a question for each code of the text and one for each row.
@@ -27,7 +36,7 @@ pub fn each_row<V: View, F: FnMut(u32, String) -> anyhow::Result<()>>(
     let mut count = 0;
     while start <= len {
         let row = row_from(heap, view, start)?;
-        visit(start, encode_text(heap, &row)?)?;
+        visit(start, text_of(heap, &row)?)?;
         start += row.len() as u32 + 1;
         count += 1;
     }

@@ -1,7 +1,7 @@
 // What is shared by the programs, over a bare view.
 use crate::orders::{arrange, print_order};
 use crate::rows::{each_row, print_numbered};
-use crate::words::place_of;
+use crate::words::{codes_of, place_of};
 use buffer::buffer::Buffer;
 use buffer::fixed_buffer::FixedBuffer;
 use buffer::gap_buffer::try_open;
@@ -66,6 +66,7 @@ fn words(rt: HostRuntime) -> Result<(), Fail> {
     assert_eq!(rt; place_of(heap, &document, "\nN30").ok(), Some(7));
     assert_eq!(rt; place_of(heap, &document, "").ok(), Some(0));
     assert!(rt; place_of(heap, &document, "N40").is_err());
+    assert_eq!(rt; codes_of(heap, "N⋯")?.as_slice(), [78, 8943].as_slice());
     Ok(())
 }
 

@@ -11,13 +11,13 @@ loop-start-preserved g c =
     let u = c.loop-start.start in
     let row = c.in_ok-row.ensures in
     let long : c.len.result ≡ length (row_from t u) = search (rules, row) in
-    let text : string_bytes c.in_ok-encode_text.field-0 ≡ encodes (row_from t u) = search (rules, row) in
-    let met : goal.F-step g c.loop-start.visit u c.in_ok-encode_text.field-0 (Ok tt) c.call_mut.new.self = rw (sym c.in_ok-call_mut.was) c.call_mut.ensures in
+    let text : string_bytes c.in_ok-text_of.field-0 ≡ encodes (row_from t u) = search (rules, row) in
+    let met : goal.F-step g c.loop-start.visit u c.in_ok-text_of.field-0 (Ok tt) c.call_mut.new.self = rw (sym c.in_ok-call_mut.was) c.call_mut.ensures in
     let kept = c.loop-start.invariant in
     let more = one_more t u c.len.result row.0 long in (
       search (rules, of_calls),
       omega arith,
       row_fits t u c.len.result row.0 long,
       omega (arith, kept.3),
-      λ last rest. kept.4 last (visit_more t u c.len.result row.0 long (goal.F-step g) c.in_ok-encode_text.field-0 c.loop-start.visit c.call_mut.new.self last text met rest),
+      λ last rest. kept.4 last (visit_more t u c.len.result row.0 long (goal.F-step g) c.in_ok-text_of.field-0 c.loop-start.visit c.call_mut.new.self last text met rest),
     )
