@@ -1,5 +1,5 @@
 -- A word stands at a place exactly where each of its codes does. Assumes nothing.
-use Rattle.std.proofs.Common.{◌≡◌, ℕ, ◌+◌, ◌<◌, ◌≤◌, Bool, true, false, List, length, get_or, take, drop, Some, None, Option, MatchOption, Decides, sym, refl, ap, ◌∙◌, arith}
+use Rattle.std.proofs.Common.{◌≡◌, ℕ, zero, suc, ◌+◌, ◌<◌, ◌≤◌, Bool, true, false, List, ◌∷◌, length, get_or, take, drop, Some, None, Option, MatchOption, Decides, sym, refl, ap, ◌∙◌, add-zero, arith}
 use Rattle.std.proofs.lemmas.List.{ext_get_or, length-take, length-drop, get_or-take, get_or-drop}
 use Rattle.std.specs.Bool.{MatchBool}
 use Rattle.std.specs.List.{zip, range_with_len, AllWithin, HoldsAt}
@@ -52,3 +52,18 @@ module _ (d w : List ℕ) (u n : ℕ) (inside : u + length w ≤ length d) (shor
       let l = length-pairs in
       let h : off.0 < length w = omega (arith, off.1) in
       decides_no (λ s. (rw (pair off.0 h) at (off.2 (0, 0))) (omega arith) (stands_code d w u s off.0 h))
+
+-- a word stands where its first code does and the others stand behind it
+module _ (d rest : List ℕ) (f u : ℕ) (inside : u + length (f ∷ rest) ≤ length d) (here : get_or d u 0 ≡ f) where
+  each : StandsAt d rest (u + 1) → (k : ℕ) → k < length (f ∷ rest) → get_or d (u + k) 0 ≡ get_or (f ∷ rest) k 0
+  each s zero h = ap (λ (i : ℕ). get_or d i 0) (add-zero u) ∙ here
+  each s (suc k) h = let on : u + suc k ≡ u + 1 + k = omega arith in ap (λ (i : ℕ). get_or d i 0) on ∙ stands_code d rest (u + 1) s k (omega arith)
+
+  behind : StandsAt d (f ∷ rest) u → StandsAt d rest (u + 1)
+  behind s =
+      stands_from d rest (u + 1) (omega arith) (λ k h.
+      let on : u + 1 + k ≡ u + suc k = omega arith in
+      ap (λ (i : ℕ). get_or d i 0) on ∙ stands_code d (f ∷ rest) u s (suc k) (omega arith))
+
+  pub decided_behind : (x : Bool) → Decides x (StandsAt d rest (u + 1)) → Decides x (StandsAt d (f ∷ rest) u)
+  decided_behind x by = (λ e. stands_from d (f ∷ rest) u inside (each (by.0 e)), λ s. by.1 (behind s))

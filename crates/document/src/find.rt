@@ -19,15 +19,15 @@ fn stands_at<B: Buffer>(buffer: &B, word: &[u32], place: u32) -> bool
     if place > len || word.len() > (len - place) as usize {
         return false;
     }
-    // the first code by itself, since most places differ there, and the walk through the word costs more to begin
-    if let Some(first) = word.first()
-        && !has_code(buffer, place, *first)
-    {
-        return false;
-    }
-    word.iter()
-        .zip(place..len)
-        .all(|(code, at)| has_code(buffer, at, *code))
+    let Some((first, rest)) = word.split_first() else {
+        return true;
+    };
+    // the first code by itself, since most places differ there, and a walk through the others costs more to begin
+    has_code(buffer, place, *first)
+        && rest
+            .iter()
+            .zip(place + 1..len)
+            .all(|(code, at)| has_code(buffer, at, *code))
 }
 
 // The first place from `from` on at which `word` stands, none where it stands nowhere. Costs the places passed over

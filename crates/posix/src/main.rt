@@ -43,9 +43,9 @@ fn heading(line: &str) -> Option<(char, u32)> {
 impl Block {
     // The block that `line` begins, which has no text yet.
     fn begin(heap: Global, line: &str) -> anyhow::Result<Block> {
-        let (verb, width) = heading(line).context(format_args!(
-            "neither text nor the start of a block: {line}"
-        ))?;
+        let Some((verb, width)) = heading(line) else {
+            return Err(anyhow!(format!(in heap; "neither text nor the start of a block: {line}")?));
+        };
         Ok(Block {
             verb,
             width,

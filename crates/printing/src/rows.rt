@@ -13,7 +13,7 @@ use std::alloc::Global;
 use view::rows::row_from;
 use view::view::View;
 
-// The bytes of `row`, or an error where memory runs out. One pass.
+// The text of `row`; the one error told is that memory ran out, since a text has codes of Unicode alone. One pass.
 fn text_of(heap: Global, row: &[u32]) -> anyhow::Result<String>
     ensures { IfOk result (λ text. string_bytes text ≡ encodes row.now) }
 {

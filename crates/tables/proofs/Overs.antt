@@ -1,9 +1,9 @@
 -- Places over marks from the sums that code has of the records. Assumes nothing.
-use Rattle.std.proofs.Common.{◌≡◌, ℕ, zero, suc, ◌+◌, ◌-◌, ◌<◌, ◌≤◌, max, Bool, true, false, ltb, leb, List, [], ◌∷◌, map, length, get_or, take, sym, refl, ap, ◌∙◌, subst, true≢false, arith, Option, Some, None, slice_get}
+use Rattle.std.proofs.Common.{◌≡◌, ℕ, zero, suc, ◌+◌, ◌-◌, ◌<◌, ◌≤◌, max, min, Bool, true, false, ltb, leb, List, [], ◌∷◌, map, length, get_or, take, sym, refl, ap, ◌∙◌, subst, true≢false, arith, Option, Some, None, slice_get}
 use Rattle.std.specs.List.{prefix_len}
 use Rattle.std.specs.Option.{MatchOption, is_some, option_copied}
 use Rattle.std.proofs.lemmas.Bool.Decides.{nat_tests}
-use Rattle.std.proofs.lemmas.List.{get_or_default, get_or-map, length-map, take_all}
+use Rattle.std.proofs.lemmas.List.{get_or_default, get_or-map, length-map, take_all, take-map}
 use Rattle.std.proofs.lemmas.List.Sums.{prefix_len-le-length, prefix_len_passes, prefix_len_stops}
 use Rattle.places.specs.Maps.{Finds}
 use Rattle.places.specs.Marks.{Mark, past, Placed, taken_in, shown_in}
@@ -40,6 +40,22 @@ pub end_of_last : {R : Type 0} (mark : R → Mark) (rs : List R) (o : Option (Bo
 end_of_last mark [] None r same by = by
 end_of_last mark (x ∷ xs) None r same by = absurd (true≢false (sym (ap is_some same ∙ last_there x xs)))
 end_of_last mark rs (Some x) r same by = by ∙ end_last mark 0 rs x.now same
+
+-- what a search counts of the records of a table it counts of the records that were lent, and no more than there are
+pub found_in : {R : Type 0} (mark : R → Mark) (p : Mark → Bool) (rs qs : List R) (k n : ℕ) → rs ≡ qs → k ≡ prefix_len p (map mark qs) → n ≡ min k (length rs) → n ≡ prefix_len p (map mark rs)
+found_in mark p rs qs k n same found cut =
+    let all : k ≡ prefix_len p (map mark rs) = found ∙ ap (λ z. prefix_len p (map mark z)) (sym same) in
+    omega (arith, prefix_len-le-length p (map mark rs), length-map rs mark)
+
+pub end_in : {R : Type 0} (mark : R → Mark) (rs : List R) (n r : ℕ) → r ≡ end_of 0 (map mark (take n rs)) → r ≡ end_of 0 (take n (map mark rs))
+end_in mark rs n r e = e ∙ ap (end_of 0) (sym (take-map mark n rs))
+
+-- the sums of the first records are those of their marks
+pub shown_first : {R : Type 0} (mark : R → Mark) (rs : List R) (n s : ℕ) → s ≡ shown_in (map mark (take n rs)) → s ≡ shown_in (take n (map mark rs))
+shown_first mark rs n s e = e ∙ ap shown_in (sym (take-map mark n rs))
+
+pub taken_first : {R : Type 0} (mark : R → Mark) (rs : List R) (n t : ℕ) → t ≡ taken_in (map mark (take n rs)) → t ≡ taken_in (take n (map mark rs))
+taken_first mark rs n t e = e ∙ ap taken_in (sym (take-map mark n rs))
 
 -- a record that was read, and its mark
 pub mark_read : {R : Type 0} (mark : R → Mark) (rs qs : List R) (i : ℕ) (x : R) → rs ≡ qs → i < length rs → x ≡ get_or rs i x → mark x ≡ get_or (map mark qs) i (mark x)

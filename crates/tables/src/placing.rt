@@ -29,27 +29,23 @@ fn end_of<R: Record>(records: &[R]) -> u32
     records.last().map_or(0, |record| record.past())
 }
 
-// What the first records of a table come to: the place behind what the last of them takes, 0 where there are none, and
-// how many codes they show and take together.
+// How many codes the first records of a table show and take together.
 #[derive(Clone, Copy)]
 struct Passed {
-    past: u32,
     shown: u64,
     taken: u64,
 }
 
 impl Passed {
-    // The first `n` records of `table`, or all where there are fewer. One pass over them.
-    fn new<R: Record>(table: &Table<R>, n: usize) -> Passed
-        ensures past { result.past ≡ end_of 0 (take n (marks_of R.Record.mark table.now)) }
-        ensures shown { result.shown ≡ shown_in (take n (marks_of R.Record.mark table.now)) }
-        ensures taken { result.taken ≡ taken_in (take n (marks_of R.Record.mark table.now)) }
+    // These records, the first ones of a table. One pass over them.
+    fn new<R: Record>(records: &[R]) -> Passed
+        requires { length records.now ≤ 64 }
+        ensures shown { result.shown ≡ shown_in (map R.Record.mark records.now) }
+        ensures taken { result.taken ≡ taken_in (map R.Record.mark records.now) }
     {
-        let records = table.records();
         Passed {
-            past: end_of(&records[..n.min(records.len())]),
-            shown: R::shown_before(records, n),
-            taken: R::taken_before(records, n),
+            shown: R::shown_before(records, records.len()),
+            taken: R::taken_before(records, records.len()),
         }
     }
 
@@ -68,7 +64,8 @@ impl Passed {
 pub fn length_over<R: Record>(table: &Table<R>, below: u32) -> u32
     ensures { (xs : List ℕ) → length xs ≡ below → Counted (marks_of R.Record.mark table.now) xs → result ≡ length (text_over (marks_of R.Record.mark table.now) xs) }
 {
-    let all = Passed::new(table, table.len());
+    let records = table.records();
+    let all = Passed::new(records);
     balance(below, all.shown, all.taken)
 }
 
@@ -76,17 +73,25 @@ pub fn length_over<R: Record>(table: &Table<R>, below: u32) -> u32
 pub fn first_over<R: Record>(table: &Table<R>, l: u32) -> u32
     ensures { (xs : List ℕ) → l ≤ length xs → Counted (marks_of R.Record.mark table.now) xs → result ≡ first_over (marks_of R.Record.mark table.now) xs l }
 {
-    let passed = Passed::new(table, table.begun(l));
-    balance(passed.past.max(l), passed.shown, passed.taken)
+    let records = table.records();
+    let n = table.begun(l).min(records.len());
+    let front = &records[..n];
+    let past = end_of(front);
+    let passed = Passed::new(front);
+    balance(past.max(l), passed.shown, passed.taken)
 }
 
 // The greatest place over the place `l` below. One pass over the records.
 pub fn last_over<R: Record>(table: &Table<R>, l: u32) -> u32
     ensures { (xs : List ℕ) → l ≤ length xs → Counted (marks_of R.Record.mark table.now) xs → result ≡ last_over (marks_of R.Record.mark table.now) xs l }
 {
-    let passed = Passed::new(table, table.reached(l));
-    if l < passed.past {
-        balance(passed.past, passed.shown, passed.taken.saturating_add(1))
+    let records = table.records();
+    let n = table.reached(l).min(records.len());
+    let front = &records[..n];
+    let past = end_of(front);
+    let passed = Passed::new(front);
+    if l < past {
+        balance(past, passed.shown, passed.taken.saturating_add(1))
     } else {
         balance(l, passed.shown, passed.taken)
     }
@@ -94,13 +99,13 @@ pub fn last_over<R: Record>(table: &Table<R>, l: u32) -> u32
 
 // How many records from the front on show their codes from the place `u` above on or before it. One pass over the records
 // for each of them at most.
-fn begun_above<R: Record>(table: &Table<R>, u: u32) -> usize
-    ensures few { result ≤ length (records_of table.now) }
-    ensures begun { Begun (marks_of R.Record.mark table.now) u result }
+fn begun_above<R: Record>(records: &[R], u: u32) -> usize
+    requires { length records.now ≤ 64 }
+    ensures few { result ≤ length records.now }
+    ensures begun { Begun (map R.Record.mark records.now) u result }
 {
-    let records = table.records();
     for (i, record) in records.iter().enumerate() {
-        if !Passed::new(table, i).begins_by(record.place(), u) {
+        if !Passed::new(&records[..i]).begins_by(record.place(), u) {
             return i;
         }
     }
@@ -111,16 +116,17 @@ fn begun_above<R: Record>(table: &Table<R>, u: u32) -> usize
 pub fn held_at<R: Record>(table: &Table<R>, u: u32) -> Held
     ensures { (xs : List ℕ) → u ≤ length (text_over (marks_of R.Record.mark table.now) xs) → Counted (marks_of R.Record.mark table.now) xs → Holds (marks_of R.Record.mark table.now) xs u result }
 {
-    let n = begun_above(table, u);
+    let records = table.records();
+    let n = begun_above(records, u);
     if let Some(index) = n.checked_sub(1) {
-        let record = &table.records()[index];
-        let before = Passed::new(table, index);
+        let record = &records[index];
+        let before = Passed::new(&records[..index]);
         let offset = u.saturating_sub(balance(record.place(), before.shown, before.taken));
         if offset < record.shown() {
             return Held::Shown { index, offset };
         }
     }
-    let passed = Passed::new(table, n);
+    let passed = Passed::new(&records[..n]);
     Held::Below {
         place: balance(u, passed.taken, passed.shown),
     }

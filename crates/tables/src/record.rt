@@ -28,7 +28,7 @@ pub trait Record: Copy {
 
     // Follows a change of the text below: false where it is dropped. Promised where no number passes 32 bits. Constant
     // time.
-    // stays: a bool, which is what `retain` asks of the function that it lends each record to
+    // stays: a bool, since whether a record lives on is a question of yes or no
     fn follow(&mut self, change: Change) -> bool
         ensures lives { Room change (mark self.old) → result ≡ lives change (mark self.old) }
         ensures sent { Room change (mark self.old) → mark self.new ≡ sent change (mark self.old) };

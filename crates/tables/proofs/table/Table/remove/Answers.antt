@@ -1,4 +1,4 @@
-use Rattle.std.proofs.Common.{◌≡◌, ◌≤◌, ◌<◌, length, arith, length-take, rules}
+use Rattle.std.proofs.Common.{◌≤◌, ◌<◌, length, arith, length-take, rules}
 use Rattle.tables.proofs.Shifting.{removed}
 use Rattle.tables.proofs.table.Table.remove.Goals as goal
 
