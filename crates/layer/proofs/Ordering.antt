@@ -43,6 +43,7 @@ module _ {V : Type 0} (e : Eyes V) (v : V) (lawful : Lawful e v) (r : Records) (
   pub obeyed_sound : (len' : ℕ) → len' ≡ length (shown q (text_at e v)) → Sound e v q len' top up
   obeyed_sound len' sized =
       record {
+        below = s.below;
         knows = s.knows ∙ sym still_awake;
         sized = sized ∙ ap length (sym text_then);
         topped = s.topped ∙ sym (same_ceiling e.most r q (e.stack v) (e.stack v) same_kind refl);

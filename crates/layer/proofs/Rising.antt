@@ -1,5 +1,5 @@
 -- Refusals of the view below, as a layer hands them on. Assumes nothing.
-use Rattle.std.proofs.Common.{◌≡◌, ℕ, zero, suc, ◌+◌, min, Bool, true, false, ltb, List, [], ◌∷◌, length, Some, None, Ok, Err, Option, Result, sym, refl, ap, ◌∙◌, subst, ⊎_elim, arith}
+use Rattle.std.proofs.Common.{◌≡◌, ℕ, zero, suc, ◌+◌, min, Bool, true, false, ltb, List, [], ◌∷◌, length, Some, None, Ok, Err, Option, Result, sym, refl, ap, ◌∙◌, ⊎_elim, arith}
 use Rattle.std.specs.Option.{option_map}
 use Rattle.std.specs.Result.{MatchResult, IsErrAnd}
 use Rattle.std.specs.List.{AllByRecursion}
@@ -143,12 +143,6 @@ deeper_none most r rs d k o w h =
 pub order_here : (most : ℕ) (r : Records) (rs : List Records) (d : List ℕ) (o : Order) (w : List ℕ)
     → order_refusal_of most (r ∷ rs) d zero o w ≡ option_map (at_layer 0) (meant_refusal most (r ∷ rs) d zero o w)
 order_here most r rs d o w = cond-true (ltb 0 (suc (length rs))) _ _ (lt-ltb 0 (suc (length rs)) (omega arith))
-
--- two values of a struct that keeps a fact of one proof are one where they are one but for it
-pub same_but : {V L : Type 0} (P : V → Type 0) → ((z : V) → IsProp (P z)) → (make : (z : V) → P z → L) → (v w : V) (p : P v) (q : P w) → v ≡ w → make v p ≡ make w q
-same_but P once make v w p q e =
-    let Q : _ → Type 0 = λ z. (p : P z) → make z p ≡ make w q in
-    subst Q (sym e) (λ p. ap (make w) (once w p q)) p
 
 -- what an answer was before its errors, and nothing else, were mapped by f
 module _ {T E F : Type 0} (f : E → F) (P : E → F → Type 0) (maps : (e : E) (z : F) → P e z → z ≡ f e) where

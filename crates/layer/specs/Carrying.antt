@@ -17,6 +17,7 @@ use Rattle.layer.specs.Stacking.{stack_means, text_awake, text_asleep, text_le, 
 
 -- what is told of a view by its laws
 pub record Lawful {V : Type 0} (e : Eyes V) (v : V) : Type 0 where
+  pub sound : e.sound v
   pub fits : AllFit e.most (e.stack v) (e.doc v)
   pub small : (length (e.doc v) + e.spare_of v ≤ e.most) × (e.most ≤ 1073741824)
 
@@ -56,7 +57,7 @@ module _ {V : Type 0} (e : Eyes V) (v : V) (lawful : Lawful e v) where
       let t = text_le e.most (e.stack v) (e.doc v) lawful.fits (omega (arith, lawful.small.0)) in
       let g = grown_length r (text_at e v) (ceiling_of e.most (e.stack v)) fit t in
       let h : growth r (ceiling_of e.most (e.stack v)) ≤ 1073741824 = grind (arith, nat_tests) in
-      record { fit = fit; low = text_small; high = omega arith; room = grown_countable r _ (omega (arith, growth_rises r _ _ t)) }
+      record { sound = lawful.sound; fit = fit; low = text_small; high = omega arith; room = grown_countable r _ (omega (arith, growth_rises r _ _ t)) }
 
   -- the records of a sound layer over it fit with those below
   pub sound_fits : (r : Records) (len top : ℕ) (up : Bool) → Sound e v r len top up → AllFit e.most (r ∷ e.stack v) (e.doc v)
@@ -89,6 +90,7 @@ module _ {V : Type 0} (e : Eyes V) (v v' : V) (lawful : Lawful e v) (lawful' : L
       let P : ℕ → Type 0 = λ n. Fit r n in
       let b = before_is in
       record {
+        sound = lawful'.sound;
         new_fits = kept.new_fits;
         old_fits = omega (arith, kept.old_fits);
         fit = subst P (sym before_is) (when_true _ _ h s.fits);
@@ -171,6 +173,7 @@ module _ {V : Type 0} (e : Eyes V) (v v' : V) (lawful : Lawful e v) (lawful' : L
     carried_sound =
         let P : Records → Type 0 = λ z. Fit z (length (text_at e v')) in
         record {
+          below = lawful'.sound;
           knows = s.knows ∙ sym (same_awake e.most r q (e.stack v) (e.stack v') same_kind low);
           sized =
               ⊎_elim

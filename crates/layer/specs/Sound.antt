@@ -1,52 +1,15 @@
 -- What a layer keeps true beside its records. Assumes nothing.
-use Rattle.std.specs.Prelude.{◌≡◌, ℕ, ◌≤◌, Bool, List, [], ◌∷◌, length, MatchBool}
-use Rattle.std.specs.Bool.{MatchBool-prop}
-use Rattle.std.specs.List.{AllByRecursion, AllByRecursion-prop}
-use Rattle.std.specs.Coded.{Coded-set, coded_ℕ, coded_list, Unit-prop, le_prop}
-use Rattle.std.proofs.Math.Nat.{ℕ_set}
-use Rattle.std.proofs.Math.Bool.{Bool-set}
-use Rattle.codes.specs.Codes.{placeholder}
-use Rattle.places.specs.Marks.{Mark, past, Placed, Light, Solid}
-use Rattle.view.specs.Layers.{Records, hints, folds, tabs, wrap, Fit}
+use Rattle.std.specs.Prelude.{◌≡◌, ℕ, Bool, ◌∷◌, length, MatchBool}
+use Rattle.view.specs.Layers.{Records, Fit}
 use Rattle.view.specs.Stacks.{text_of, ceiling_of, awake}
 use Rattle.view.specs.declared.view.Meaning.{Ghosts as Eyes}
 use Rattle.view.specs.Seen.{text_at}
 
--- a layer with the records r over the view v: its length and its ceiling are those of its text, it knows whether it is
--- awake, and its records fit if it is
+-- a layer with the records r over the view v, a sound one: its length and its ceiling are those of its text, it knows
+-- whether it is awake, and its records fit if it is
 pub record Sound {V : Type 0} (e : Eyes V) (v : V) (r : Records) (len top : ℕ) (up : Bool) : Type 0 where
+  pub below : e.sound v
   pub knows : up ≡ awake e.most r (e.stack v)
   pub sized : len ≡ length (text_of e.most (r ∷ e.stack v) (e.doc v))
   pub topped : top ≡ ceiling_of e.most (r ∷ e.stack v)
   pub fits : MatchBool up (Fit r (length (text_at e v))) (Unit {0})
-
--- a struct keeps only a fact that has one proof at most, as this one
-placed_once : (p : ℕ) (ms : List Mark) (n : ℕ) → IsProp (Placed p ms n)
-placed_once p [] n = le_prop
-placed_once p (m ∷ ms) n = Prim.hlevel (le_prop, placed_once (past m) ms n)
-
-light_once : (ms : List Mark) → IsProp (Light ms)
-light_once [] = Unit-prop
-light_once (m ∷ ms) = Prim.hlevel (ℕ_set, light_once ms)
-
-solid_once : (ms : List Mark) → IsProp (Solid ms)
-solid_once [] = Unit-prop
-solid_once (m ∷ ms) = Prim.hlevel (le_prop, solid_once ms)
-
-few_once : (low : Mark → List ℕ) (n : ℕ) (ms : List Mark) → IsProp (AllByRecursion (λ m. length (low m) ≤ n) ms)
-few_once low n ms = AllByRecursion-prop _ (λ m. le_prop) ms
-
-fold_once : (ms : List Mark) → IsProp (AllByRecursion (λ m. m.shows ≡ placeholder ∷ []) ms)
-fold_once ms = AllByRecursion-prop _ (λ m. Coded-set (coded_list coded_ℕ) _ _) ms
-
-fit_once : (r : Records) (n : ℕ) → IsProp (Fit r n)
-fit_once (hints ms) n = Prim.hlevel (le_prop, placed_once, light_once, few_once)
-fit_once (folds ms) n = Prim.hlevel (le_prop, placed_once, solid_once, fold_once)
-fit_once (tabs w) n = Prim.hlevel le_prop
-fit_once (wrap w) n = Prim.hlevel le_prop
-
-fits_once : (up : Bool) (r : Records) (n : ℕ) → IsProp (MatchBool up (Fit r n) (Unit {0}))
-fits_once up r n = MatchBool-prop up (Fit r n) (Unit {0}) (fit_once r n) Unit-prop
-
-pub sound_once : {V : Type 0} (e : Eyes V) (v : V) (r : Records) (len top : ℕ) (up : Bool) → IsProp (Sound e v r len top up)
-sound_once e v r len top up = Prim.hlevel (ℕ_set, Bool-set, fits_once up r (length (text_at e v)))

@@ -8,7 +8,7 @@ ghost use Rattle.std.specs.Prelude.{◌≡◌, ◌∷◌, length, if◌then◌el
 ghost use Rattle.view.specs.Layers.{shown, growth, follow as followed};
 ghost use Rattle.view.specs.Seen.{text_at};
 ghost use Rattle.view.specs.Kinds.{Over, Behind, Raises};
-ghost use Rattle.layer.specs.Sound.{Sound, sound_once};
+ghost use Rattle.layer.specs.Sound.{Sound};
 ghost use Rattle.std.proofs.Common.{rules};
 ghost use Rattle.layer.specs.Carrying.{sound_means};
 
@@ -22,14 +22,13 @@ use view::view::{Meaning, View};
 const HIGHEST_CEILING: u64 = 1_073_741_824;
 
 #[derive(Drop)]
-pub struct Layer<V: Meaning, K: Kind> {
+pub struct Layer<V, K> {
     below: V,
     kind: K,
     len: u32,
     ceiling: u32,
     // stays: no mark of a value that is there or not, since the records of a sleeping layer count in its stack
     awake: bool,
-    ghost sound: { Sound V.Meaning below (K.Kind.records kind) len ceiling awake } by { sound_once V.Meaning below (K.Kind.records kind) len ceiling awake },
 }
 
 // The own ceiling over one of `low`; none where it would be too high, so that the layer is asleep.
@@ -44,30 +43,30 @@ fn grown<K: Kind>(low: u32) -> Option<u32>
     }
 }
 
-// Lets the records of `kind` follow a change that led to the text of `below`, where the layer is awake; sets the length of
-// the own text, and answers its change.
-// stays: handed the fields, not the layer, since between two of them what its type says may be false
-fn carry<V: View, K: Kind>(
-    below: &V,
-    kind: &mut K,
-    len: &mut u32,
-    awake: bool,
-    change: Change,
-) -> Change
-    requires behind { MatchBool awake (Behind V.Meaning below.now (K.Kind.records kind.old) change) (Unit {0}) }
-    requires over { MatchBool awake (Over V.Meaning below.now (followed (K.Kind.records kind.old) change)) (Unit {0}) }
-    ensures { MatchBool awake ((K.Kind.records kind.new ≡ followed (K.Kind.records kind.old) change) × (len.new ≡ length (shown (followed (K.Kind.records kind.old) change) (text_at V.Meaning below.now))) × Raises (K.Kind.records kind.old) (text_at V.Meaning below.now) change len.old result) ((K.Kind.records kind.new ≡ K.Kind.records kind.old) × (len.new ≡ length (text_at V.Meaning below.now)) × (result ≡ change)) }
-{
-    if !awake {
-        *len = below.len();
-        return change;
+impl<V: View, K: Kind> Layer<V, K> {
+    // Lets the records follow a change that led to the text below, where the layer is awake; sets the length of the own
+    // text, and answers its change.
+    fn carry(&mut self, change: Change) -> Change
+        requires sound { V.Meaning.sound self.old.below }
+        requires behind { MatchBool self.old.awake (Behind V.Meaning self.old.below (K.Kind.records self.old.kind) change) (Unit {0}) }
+        requires over { MatchBool self.old.awake (Over V.Meaning self.old.below (followed (K.Kind.records self.old.kind) change)) (Unit {0}) }
+        ensures below { self.new.below ≡ self.old.below }
+        ensures numbers { (self.new.ceiling ≡ self.old.ceiling) × (self.new.awake ≡ self.old.awake) }
+        ensures awake { MatchBool self.old.awake ((K.Kind.records self.new.kind ≡ followed (K.Kind.records self.old.kind) change) × (self.new.len ≡ length (shown (followed (K.Kind.records self.old.kind) change) (text_at V.Meaning self.old.below))) × Raises (K.Kind.records self.old.kind) (text_at V.Meaning self.old.below) change self.old.len result) ((K.Kind.records self.new.kind ≡ K.Kind.records self.old.kind) × (self.new.len ≡ length (text_at V.Meaning self.old.below)) × (result ≡ change)) }
+    {
+        if !self.awake {
+            self.len = self.below.len();
+            return change;
+        }
+        let own = self.kind.follow(&self.below, self.len, change);
+        self.len = self.kind.len(&self.below);
+        own
     }
-    let own = kind.follow(below, *len, change);
-    *len = kind.len(below);
-    own
 }
 
 impl<V: Meaning, K: Kind> Meaning for Layer<V, K> {
+    ghost sound = { λ l. Sound V.Meaning l.below (K.Kind.records l.kind) l.len l.ceiling l.awake };
+
     ghost most = { V.Meaning.most };
 
     ghost doc = { λ l. V.Meaning.doc l.below };
@@ -86,8 +85,8 @@ impl<V: View, K: Kind> View for Layer<V, K> {
 
     ghost fits = { Prim.search rules };
 
-    ghost means = { λ l.
-        sound_means V.Meaning.own l.below (record { fits = V.View.fits l.below; small = V.View.small l.below }) (K.Kind.records l.kind) l.len l.ceiling l.awake l.sound };
+    ghost means = { λ l s.
+        sound_means V.Meaning.own l.below (record { sound = s.below; fits = V.View.fits l.below s.below; small = V.View.small l.below s.below }) (K.Kind.records l.kind) l.len l.ceiling l.awake s };
 
     ghost small = { Prim.search rules };
 
@@ -158,13 +157,7 @@ impl<V: View, K: Kind> View for Layer<V, K> {
 
     fn edit(&mut self, a: u32, r: u32, w: &[u32]) -> Result<Change, ViewFault> {
         let change = self.below.edit(a, r, w).map_err(ViewFault::risen)?;
-        Ok(carry(
-            &self.below,
-            &mut self.kind,
-            &mut self.len,
-            self.awake,
-            change,
-        ))
+        Ok(self.carry(change))
     }
 
     fn order(&mut self, k: u32, order: Order, w: &[u32]) -> Result<Change, ViewFault> {
@@ -173,13 +166,7 @@ impl<V: View, K: Kind> View for Layer<V, K> {
                 .below
                 .order(k - 1, order, w)
                 .map_err(|fault| fault.risen().from_above(k))?;
-            return Ok(carry(
-                &self.below,
-                &mut self.kind,
-                &mut self.len,
-                self.awake,
-                change,
-            ));
+            return Ok(self.carry(change));
         }
         if !K::has_verb(order.verb) {
             return Err(Cause::OtherVerb { verb: order.verb }.here());

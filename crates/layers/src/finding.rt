@@ -19,6 +19,7 @@ use view::view::View;
 // Where the document place `p` lies in the text of `below`: the first place there. Refused where it is past the end.
 // Costs that question of the view.
 pub fn place_below<V: View>(below: &V, p: u32) -> Result<u32, Cause>
+    requires { V.Meaning.sound below.now }
     ensures { MatchResult result (λ l. (p ≤ length (V.Meaning.doc below.now)) × (l ≡ first_at V.Meaning below.now p)) (λ f. (length (V.Meaning.doc below.now) < p) × (cause_refusal f ≡ told 1 p)) }
 {
     below.first(p).map_err(|_| Cause::PastEnd { place: p })

@@ -12,6 +12,7 @@ use view::view::View;
 
 // The code behind the place `u`. One pass over the records.
 pub fn code_over<R: Record, V: View>(table: &Table<R>, below: &V, u: u32) -> u32
+    requires sound { V.Meaning.sound below.now }
     requires counted { Counted (marks_of R.Record.mark table.now) (text_at V.Meaning below.now) }
     requires within { u ≤ length (text_over (marks_of R.Record.mark table.now) (text_at V.Meaning below.now)) }
     ensures { result ≡ slice_index (text_over (marks_of R.Record.mark table.now) (text_at V.Meaning below.now)) u }

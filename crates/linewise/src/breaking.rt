@@ -11,6 +11,7 @@ use view::view::View;
 // last space among the next `width` codes, or behind all of them if none is a space. Costs a question for each code of
 // the row and one more.
 pub fn row_end<V: View>(below: &V, width: u32, start: u32) -> u32
+    requires { V.Meaning.sound below.now }
     ensures { result ≡ row_end width (text_at V.Meaning below.now) start }
 {
     let len = below.len();

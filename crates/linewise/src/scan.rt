@@ -11,6 +11,7 @@ pub trait Scan: Sized {
 
     // The state before the text.
     fn start<V: View>(&self, below: &V) -> u32
+        requires { V.Meaning.sound below.now }
         ensures { result ≡ (transducer self.now).start (text_at V.Meaning below.now) };
 
     // How many codes are shown of `code`. Constant time.
@@ -24,6 +25,7 @@ pub trait Scan: Sized {
 
     // The state behind `code`, which stands at `i`.
     fn next<V: View>(&self, state: u32, code: u32, below: &V, i: u32) -> u32
+        requires sound { V.Meaning.sound below.now }
         requires within { i < length (text_at V.Meaning below.now) }
         requires there { code ≡ slice_index (text_at V.Meaning below.now) i }
         requires small { state ≤ 1073741824 + 1024 }

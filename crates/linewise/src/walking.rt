@@ -30,7 +30,8 @@ impl<'a, S: Scan, V: View> Walk<'a, S, V> {
     // How many codes are shown of the first `l` codes below: the first place that lies at or behind `l`.
     #[tactic(auto, using(crate::proofs::Walks::steps))]
     pub fn reach(&self, l: u32) -> u32
-        requires { l ≤ length (text_at V.Meaning self.now.below.now) }
+        requires sound { V.Meaning.sound self.now.below.now }
+        requires within { l ≤ length (text_at V.Meaning self.now.below.now) }
         ensures shown { result ≡ reach_by (S.Scan.transducer self.now.scan) (text_at V.Meaning self.now.below.now) l }
         ensures first { result ≡ first_by (S.Scan.transducer self.now.scan) (text_at V.Meaning self.now.below.now) l }
     {
@@ -48,6 +49,7 @@ impl<'a, S: Scan, V: View> Walk<'a, S, V> {
     // How many codes are shown of all of it.
     #[tactic(auto, using(lines::proofs::Scanning::reach_all))]
     pub fn len(&self) -> u32
+        requires { V.Meaning.sound self.now.below.now }
         ensures { result ≡ length (text_by (S.Scan.transducer self.now.scan) (text_at V.Meaning self.now.below.now)) }
     {
         self.reach(self.below.len())
@@ -56,7 +58,8 @@ impl<'a, S: Scan, V: View> Walk<'a, S, V> {
     // What stands at the place `u` of the text above.
     #[tactic(auto, using(crate::proofs::Walks::steps))]
     pub fn seek(&self, u: u32) -> Spot
-        requires { u ≤ length (text_by (S.Scan.transducer self.now.scan) (text_at V.Meaning self.now.below.now)) }
+        requires sound { V.Meaning.sound self.now.below.now }
+        requires within { u ≤ length (text_by (S.Scan.transducer self.now.scan) (text_at V.Meaning self.now.below.now)) }
         ensures under { result.under ≡ place_by (S.Scan.transducer self.now.scan) (text_at V.Meaning self.now.below.now) u }
         ensures code { result.code ≡ slice_index (text_by (S.Scan.transducer self.now.scan) (text_at V.Meaning self.now.below.now)) u }
     {
@@ -85,7 +88,8 @@ impl<'a, S: Scan, V: View> Walk<'a, S, V> {
     // The greatest place that lies at or before the place `l` below.
     #[tactic(auto, using(crate::proofs::Walks::ends))]
     pub fn last(&self, l: u32) -> u32
-        requires { l ≤ length (text_at V.Meaning self.now.below.now) }
+        requires sound { V.Meaning.sound self.now.below.now }
+        requires within { l ≤ length (text_at V.Meaning self.now.below.now) }
         ensures { result ≡ last_by (S.Scan.transducer self.now.scan) (text_at V.Meaning self.now.below.now) l }
     {
         if l < self.below.len() {
@@ -99,6 +103,7 @@ impl<'a, S: Scan, V: View> Walk<'a, S, V> {
     // from its place `from` on to the end of the line that the change ends in.
     #[tactic(auto, using(lines::proofs::Lining::line_end_fits))]
     pub fn raise(&self, len: u32, from: u32, change: Change) -> Change
+        requires sound { V.Meaning.sound self.now.below.now }
         requires within { change.start + change.new ≤ length (text_at V.Meaning self.now.below.now) }
         requires before { from ≤ length (text_at V.Meaning self.now.below.now) }
         ensures { ByNew (S.Scan.transducer self.now.scan) (text_at V.Meaning self.now.below.now) change len (reach_by (S.Scan.transducer self.now.scan) (text_at V.Meaning self.now.below.now) from) result }

@@ -55,7 +55,8 @@ pub trait Width: Scan + Copy {
     // From where on the text of `below` is shown anew when it has changed at `place`. Costs no more than a question for
     // each code of the line in front of it.
     fn anew<V: View>(below: &V, place: u32) -> u32
-        requires { place ≤ length (text_at V.Meaning below.now) }
+        requires sound { V.Meaning.sound below.now }
+        requires within { place ≤ length (text_at V.Meaning below.now) }
         ensures { result ≡ anew_from (text_at V.Meaning below.now) place };
 
     ghost opens: { (NARROWEST ≤ OPENING) × (OPENING ≤ WIDEST) };

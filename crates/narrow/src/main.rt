@@ -46,7 +46,10 @@ N90 M30\n\
 %\n";
 
 // Sets the two widths, and has one refused that is too narrow.
-fn set_widths<V: View>(rt: &HostRuntime, view: &mut V) -> io::Result<()> {
+fn set_widths<V: View>(rt: &HostRuntime, view: &mut V) -> io::Result<()>
+    requires { V.Meaning.sound view.old }
+    ensures { V.Meaning.sound view.new }
+{
     let stops = Order {
         verb: 't',
         x: 4,

@@ -86,7 +86,9 @@ fn refused(fault: ViewFault) -> anyhow::Error {
 }
 
 // Prints the rows. A text that ends with a newline has an empty row behind it, which is not printed.
-fn print_rows<V: View>(rt: &HostRuntime, view: &V) -> anyhow::Result<()> {
+fn print_rows<V: View>(rt: &HostRuntime, view: &V) -> anyhow::Result<()>
+    requires { V.Meaning.sound view.now }
+{
     let len = view.len();
     each_row(rt.alloc(), view, |start, text| {
         if start < len {

@@ -19,6 +19,8 @@ pub fn print_order<V: View>(
     order: Order,
     w: &[u32],
 ) -> io::Result<()>
+    requires { V.Meaning.sound view.old }
+    ensures sound { V.Meaning.sound view.new }
     ensures obeys { Obeyed V.Meaning view.old view.new k order w.now }
     ensures stays { V.Meaning.doc view.new ≡ V.Meaning.doc view.old }
 {
@@ -40,6 +42,8 @@ pub fn arrange<V: View, B: Buffer>(
     hints: u32,
     folds: u32,
 ) -> anyhow::Result<()>
+    requires { V.Meaning.sound view.old }
+    ensures sound { V.Meaning.sound view.new }
     ensures orders { IfOk result (λ _. Arranged V.Meaning view.old view.new (B.Buffer.doc document.now) hints folds) }
     ensures stays { V.Meaning.doc view.new ≡ V.Meaning.doc view.old }
 {

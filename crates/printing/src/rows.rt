@@ -27,7 +27,8 @@ pub fn each_row<V: View, F: FnMut(u32, String) -> anyhow::Result<()>>(
     view: &V,
     mut visit: F,
 ) -> anyhow::Result<u32>
-    requires { F.IsAlwaysCallable visit }
+    requires callable { F.IsAlwaysCallable visit }
+    requires sound { V.Meaning.sound view.now }
     ensures count { IfOk result (λ n. n ≡ length (rows (text_at V.Meaning view.now))) }
     ensures visits { IfOk result (λ _. VisitsRows F.step visit (rows (text_at V.Meaning view.now))) }
 {
@@ -50,6 +51,7 @@ pub fn print_numbered<V: View, B: Buffer>(
     view: &V,
     document: &B,
 ) -> anyhow::Result<u32>
+    requires { V.Meaning.sound view.now }
     ensures { IfOk result (λ n. n ≡ length (rows (text_at V.Meaning view.now))) }
 {
     each_row(rt.alloc(), view, |start, text| {

@@ -64,23 +64,31 @@ impl Expected for u8 {
     }
 }
 
-fn check_codes<V: View, E: Expected>(rt: &impl Abort, view: &V, codes: &[E]) {
+fn check_codes<V: View, E: Expected>(rt: &impl Abort, view: &V, codes: &[E])
+    requires { V.Meaning.sound view.now }
+{
     assert_eq!(rt; view.len() as usize, codes.len());
     for (u, expected) in (0..view.len()).zip(codes) {
         assert_eq!(rt; view.code(u).ok(), Some(expected.code()));
     }
 }
 
-pub fn check_text<V: View>(rt: &impl Abort, view: &V, codes: &[u32]) {
+pub fn check_text<V: View>(rt: &impl Abort, view: &V, codes: &[u32])
+    requires { V.Meaning.sound view.now }
+{
     check_codes(rt, view, codes);
 }
 
-pub fn check_shown<V: View>(rt: &impl Abort, view: &V, text: &str) {
+pub fn check_shown<V: View>(rt: &impl Abort, view: &V, text: &str)
+    requires { V.Meaning.sound view.now }
+{
     check_codes(rt, view, text.as_bytes());
 }
 
 // The places under 0, 1, 2, .. of the text, up to its end.
-pub fn check_under<V: View>(rt: &impl Abort, view: &V, places: &[u32]) {
+pub fn check_under<V: View>(rt: &impl Abort, view: &V, places: &[u32])
+    requires { V.Meaning.sound view.now }
+{
     let len = view.len();
     assert_eq!(rt; len as usize + 1, places.len());
     for (u, place) in (0..len + 1).zip(places) {

@@ -4,6 +4,8 @@
 #[cfg(test)]
 mod checks;
 #[cfg(test)]
+mod host_tests;
+#[cfg(test)]
 mod line_tests;
 #[cfg(test)]
 mod tests;

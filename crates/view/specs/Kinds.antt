@@ -16,15 +16,17 @@ Countable (folds _) n = Unit {0}
 Countable (tabs w) n = growth (tabs w) n ≤ 1073741824
 Countable (wrap w) n = growth (wrap w) n ≤ 1073741824
 
--- records that fit over a view, where neither text is too long to count
+-- records that fit over a sound view, where neither text is too long to count
 pub record Over {V : Type 0} (e : Eyes V) (v : V) (r : Records) : Type 0 where
+  pub sound : e.sound v
   pub fit : Fit r (length (text_at e v))
   pub low : length (text_at e v) ≤ 1073741824
   pub high : length (shown r (text_at e v)) ≤ 1073741824
   pub room : Countable r (length (text_at e v))
 
--- records that fitted before the change c of the text below, which is now that of the view v
+-- records that fitted before the change c of the text below, which is now that of the sound view v
 pub record Behind {V : Type 0} (e : Eyes V) (v : V) (r : Records) (c : Change) : Type 0 where
+  pub sound : e.sound v
   pub new_fits : c.start + c.new ≤ length (text_at e v)
   pub old_fits : c.start + c.old ≤ length (text_at e v) + c.old - c.new
   pub fit : Fit r (length (text_at e v) + c.old - c.new)

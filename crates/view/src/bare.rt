@@ -28,6 +28,8 @@ impl<B: Buffer> Bare<B> {
 }
 
 impl<B: Buffer> Meaning for Bare<B> {
+    ghost sound = { λ _. Unit {0} };
+
     ghost most = { B.Buffer.most };
 
     ghost doc = { λ v. B.Buffer.doc v.store };
@@ -46,7 +48,7 @@ impl<B: Buffer> View for Bare<B> {
 
     ghost fits = { Prim.search rules };
 
-    ghost means = { λ v. let small = B.Buffer.fits v.store in bare_means B.Buffer.most (B.Buffer.doc v.store) (omega arith) B.Buffer.bounded };
+    ghost means = { λ v _. let small = B.Buffer.fits v.store in bare_means B.Buffer.most (B.Buffer.doc v.store) (omega arith) B.Buffer.bounded };
 
     ghost small = { Prim.search rules };
 

@@ -9,6 +9,7 @@ use codes::code::is_row_end;
 // The code behind the place `i`, 0 past the end. Costs one question.
 // stays: no Option, since it is asked within the text, where the layers know that there is one
 pub fn code_at<V: View>(below: &V, i: u32) -> u32
+    requires { V.Meaning.sound below.now }
     ensures { result ≡ slice_index (text_at V.Meaning below.now) i }
 {
     below.code(i).unwrap_or(0)
@@ -16,7 +17,8 @@ pub fn code_at<V: View>(below: &V, i: u32) -> u32
 
 // Where the line that holds `place` begins. Costs a question for each code of the line in front of it.
 pub fn line_start<V: View>(below: &V, place: u32) -> u32
-    requires { place ≤ length (text_at V.Meaning below.now) }
+    requires sound { V.Meaning.sound below.now }
+    requires within { place ≤ length (text_at V.Meaning below.now) }
     ensures { result ≡ line_start (text_at V.Meaning below.now) place }
 {
     (0..place)
@@ -27,7 +29,8 @@ pub fn line_start<V: View>(below: &V, place: u32) -> u32
 
 // Where the line that holds `place` ends. Costs a question for each code of the line behind it.
 pub fn line_end<V: View>(below: &V, place: u32) -> u32
-    requires { place ≤ length (text_at V.Meaning below.now) }
+    requires sound { V.Meaning.sound below.now }
+    requires within { place ≤ length (text_at V.Meaning below.now) }
     ensures { result ≡ line_end (text_at V.Meaning below.now) place }
 {
     let len = below.len();

@@ -39,6 +39,7 @@ impl<T: Drop> From<AllocFailed<T>> for RowFault {
 // The codes of the text from the place `u` up to the next row end, or to the end of the text; a place past the end is
 // refused with 1, spot `u`. Costs one question for each code handed out.
 pub fn row_from<V: View>(heap: Global, view: &V, u: u32) -> Result<Vec<u32>, RowFault>
+    requires { V.Meaning.sound view.now }
     ensures { HandsRow (text_at V.Meaning view.now) u result }
 {
     let len = view.len();

@@ -7,7 +7,7 @@ pub overflow_add-result : goal.overflow_add-result
 overflow_add-result g c =
     let e = g.V.Meaning in
     let v = c.args.view.now in
-    let few = ends_few e.most (e.stack v) (e.doc v) (g.met.V.View.means v) in
+    let few = ends_few e.most (e.stack v) (e.doc v) (g.met.V.View.means v c.requires) in
     omega (arith, few c.len.result, c.ends_before.ensures)
 
 pub returns : goal.returns

@@ -10,21 +10,21 @@ last-requires-2 g c =
     let v = c.args.self.now.below in
     let r = g.K.Kind.records c.args.self.now.kind in
     let e = g.V.Meaning in
-    let s = c.args.self.now.sound in
-    let law : (z : g.row.V.Denot) → Lawful g.V.Meaning z = λ z. record { fits = g.met.V.View.fits z; small = g.met.V.View.small z } in
+    let s = c.requires in
+    let law : (z : g.row.V.Denot) → g.V.Meaning.sound z → Lawful g.V.Meaning z = λ z s. record { sound = s; fits = g.met.V.View.fits z s; small = g.met.V.View.small z s } in
     let answer = c.in_ok-l.ensures in
-    let inside = (stack_finds e.most (e.stack v) (e.doc v) (law v).fits).last_in c.args.p answer.0 in
-    record { over = sound_over e v (law v) r _ _ _ s c.if-not-self.false; within = omega (arith, answer.1) }
+    let inside = (stack_finds e.most (e.stack v) (e.doc v) (law v s.below).fits).last_in c.args.p answer.0 in
+    record { over = sound_over e v (law v s.below) r _ _ _ s c.if-not-self.false; within = omega (arith, answer.1) }
 
 pub returns : goal.returns
 returns g c =
     let v = c.args.self.now.below in
     let r = g.K.Kind.records c.args.self.now.kind in
     let e = g.V.Meaning in
-    let s = c.args.self.now.sound in
-    let law : (z : g.row.V.Denot) → Lawful g.V.Meaning z = λ z. record { fits = g.met.V.View.fits z; small = g.met.V.View.small z } in
+    let s = c.requires in
+    let law : (z : g.row.V.Denot) → g.V.Meaning.sound z → Lawful g.V.Meaning z = λ z s. record { sound = s; fits = g.met.V.View.fits z s; small = g.met.V.View.small z s } in
     let answer = c.in_ok-l.ensures in (
       answer.0,
       c.last-2.ensures ∙ ap (last r (text_at e v)) answer.1
-          ∙ last_awake e.most r (e.stack v) (e.doc v) (sound_fits e v (law v) r _ _ _ s) c.args.p answer.0 (sym s.knows ∙ c.if-not-self.false),
+          ∙ last_awake e.most r (e.stack v) (e.doc v) (sound_fits e v (law v s.below) r _ _ _ s) c.args.p answer.0 (sym s.knows ∙ c.if-not-self.false),
     )

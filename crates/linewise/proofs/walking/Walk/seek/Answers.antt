@@ -19,5 +19,5 @@ loop-i-preserved g c = record {
 
 pub returns : goal.returns
 returns g c =
-    let spot = spot_past _ _ c.loop-i.i c.loop-i.reach c.loop-i.state c.args.u c.loop-i.invariant.walked (omega arith) (g.met.S.Scan.steady c.args.self.now.scan) c.loop-i.invariant.low c.requires _ c.len-len.ensures in
+    let spot = spot_past _ _ c.loop-i.i c.loop-i.reach c.loop-i.state c.args.u c.loop-i.invariant.walked (omega arith) (g.met.S.Scan.steady c.args.self.now.scan) c.loop-i.invariant.low c.requires.within _ c.len-len.ensures in
     record { under = spot.0; code = spot.1 }

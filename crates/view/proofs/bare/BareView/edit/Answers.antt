@@ -14,4 +14,7 @@ pub returns : goal.returns
 returns g c =
     let e = c.in_ok-edit.ensures.does in
     let d = g.B.Buffer.doc c.args.self.now.store in
-    (ap (option_map (at_layer 1)) e.0, e.1, e.2, (refl, refl, kept d _ c.args.a c.args.r c.args.w.now e.1 (edited_keeps d c.args.a c.args.r c.args.w.now (edit_inside _ _ _ _ _ e.0))))
+    record {
+      sound = tt;
+      does = (ap (option_map (at_layer 1)) e.0, e.1, e.2, (refl, refl, kept d _ c.args.a c.args.r c.args.w.now e.1 (edited_keeps d c.args.a c.args.r c.args.w.now (edit_inside _ _ _ _ _ e.0))));
+    }
