@@ -6,8 +6,9 @@ use Rattle.lines.specs.Transducers.{Transducer, text_by, reach_by}
 use Rattle.view.specs.declared.view.Meaning.{Ghosts as Eyes}
 use Rattle.view.specs.Seen.{text_at}
 
--- neither the text below nor what is shown of it is too long to count
+-- the view below is sound, and neither its text nor what is shown of it is too long to count
 pub record Walkable {V : Type 0} (e : Eyes V) (v : V) (m : Transducer) : Type 0 where
+  pub sound : e.sound v
   pub low : length (text_at e v) ≤ 1073741824
   pub high : length (text_by m (text_at e v)) ≤ 1073741824
 

@@ -5,6 +5,7 @@ ghost use Rattle.lines.specs.Transducers.{pieces_by};
 ghost use Rattle.view.specs.Layers.{pieces};
 ghost use Rattle.view.specs.Kinds.{Countable};
 ghost use Rattle.view.specs.Seen.{text_at};
+ghost use Rattle.linewise.specs.Scans.{Walkable};
 ghost use Rattle.std.proofs.Common.{rules};
 
 use crate::walking::Walk;
@@ -28,12 +29,14 @@ pub struct Lines<S> {
 impl<S: Width> Lines<S> {
     // The walk through the text of `below`.
     fn walk<'a, V: View>(&self, below: &'a V) -> Walk<'a, S, V>
+        requires sound { V.Meaning.sound below.now }
         requires taken { (S.NARROWEST ≤ self.now.width) × (self.now.width ≤ S.WIDEST) }
         requires low { length (text_at V.Meaning below.now) ≤ 1073741824 }
         requires room { Countable (S.records_at self.now.width) (length (text_at V.Meaning below.now)) }
         ensures width { S.width_of result.scan ≡ self.now.width }
         ensures shows { (xs : List ℕ) → pieces (S.records_at self.now.width) xs ≡ pieces_by (S.transducer result.scan) xs }
         ensures below { result.below.now ≡ below.now }
+        ensures walkable { Walkable V.Meaning result.below.now (S.transducer result.scan) }
     {
         Walk {
             scan: S::at_width(self.width),

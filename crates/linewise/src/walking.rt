@@ -3,7 +3,7 @@
 ghost use Rattle.std.specs.Prelude.{◌≡◌, ◌+◌, ◌≤◌, length, slice_index};
 ghost use Rattle.lines.specs.Transducers.{text_by, place_by, first_by, last_by, reach_by};
 ghost use Rattle.view.specs.Seen.{text_at};
-ghost use Rattle.linewise.specs.Scans.{Walkable, ByNew};
+ghost use Rattle.linewise.specs.Scans.{ByNew};
 
 use crate::scan::Scan;
 use places::change::Change;
@@ -15,7 +15,7 @@ use view::view::View;
 pub struct Walk<'a, S: Scan, V: View> {
     pub scan: S,
     pub below: &'a V,
-    ghost walkable: { Walkable V.Meaning below.now (S.Scan.transducer scan) },
+    ghost short: { (length (text_at V.Meaning below.now) ≤ 1073741824) × (length (text_by (S.Scan.transducer scan) (text_at V.Meaning below.now)) ≤ 1073741824) },
 }
 
 // What stands at a place of the text above: the place below, and the code, 0 at the end.
