@@ -1,4 +1,5 @@
 pub mod Codes
+pub mod Encoded
 pub mod Search
 pub mod Sums
 pub mod Texts

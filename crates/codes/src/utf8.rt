@@ -1,6 +1,7 @@
 // UTF-8 as RFC 3629 has it, code by code, both ways.
 ghost use Rattle.std.specs.Prelude.{◌≡◌, ℕ, ◌≤◌, true, false, List, ◌++◌, length, take, IfSome, MatchOption};
 ghost use Rattle.std.proofs.Math.Utf8.{scalar as is_scalar, encode as bytes_of};
+ghost use Rattle.codes.specs.Encoded.{IsPadded, cells_of};
 ghost use Rattle.codes.specs.Utf8.{decoded, Tells, is_lead, lead_bits, tail_count, tail_low, tail_high, tail_of};
 
 use thiserror::Error;
@@ -103,6 +104,7 @@ pub struct Encoded {
     bytes: [u8; 4],
     len: usize,
     ghost fits: { len ≤ 4 },
+    ghost padded: { IsPadded bytes len },
 }
 
 impl Encoded {
@@ -110,6 +112,7 @@ impl Encoded {
     pub fn as_slice(&self) -> &[u8]
         ensures value { result.now ≡ take self.now.len self.now.bytes }
         ensures few { length result.now ≤ 4 }
+        ensures cells { cells_of result.now ≡ (self.now.bytes, self.now.len) }
     {
         &self.bytes[0..self.len]
     }

@@ -5,7 +5,7 @@ use Rattle.std.proofs.lemmas.Bool.Decides.{nat_tests}
 use Rattle.places.specs.declared.change.Change.{Change}
 use Rattle.lines.specs.Lines.{line_rest}
 use Rattle.lines.specs.Tabs.{tab_stops}
-use Rattle.lines.specs.Transducers.{Transducer}
+use Rattle.lines.specs.Transducers.{Transducer, text_by}
 use Rattle.lines.specs.Wraps.{row_length, soft_wrap}
 use Rattle.lines.proofs.Scanning.{text_grows}
 use Rattle.lines.proofs.Steadiness.{tabs_shown_le, wrap_shown_le}
@@ -28,10 +28,16 @@ wrap_bounded w h = record {
   next_small = λ k x xs. let a = row_most w (line_rest xs) in let b = row_most w (x ∷ line_rest xs) in grind (arith, nat_tests);
 }
 
+-- a text can be counted, and so can what is shown of it, when each of its codes becomes f at most
+pub short : {V : Type 0} (e : Eyes V) (v : V) (m : Transducer) (f : ℕ) → ((k x : ℕ) → length (m.show k x) ≤ f)
+    → length (text_at e v) ≤ 1073741824 → f * length (text_at e v) ≤ 1073741824
+    → (length (text_at e v) ≤ 1073741824) × (length (text_by m (text_at e v)) ≤ 1073741824)
+short e v m f few low room = (low, omega (arith, text_grows m f few (text_at e v)))
+
 -- a sound view can be gone through whose text can still be counted when each of its codes becomes f
 pub walkable : {V : Type 0} (e : Eyes V) (v : V) (m : Transducer) (f : ℕ) → ((k x : ℕ) → length (m.show k x) ≤ f)
     → e.sound v → length (text_at e v) ≤ 1073741824 → f * length (text_at e v) ≤ 1073741824 → Walkable e v m
-walkable e v m f few sound low room = record { sound = sound; low = low; high = omega (arith, text_grows m f few (text_at e v)) }
+walkable e v m f few sound low room = let s = short e v m f few low room in record { sound = sound; low = s.0; high = s.1 }
 
 -- a width within the range is not refused
 pub width_taken : (low high : ℕ) (o : Order) → low ≤ o.x → o.x ≤ high → first_cause (width_causes low high o) ≡ None

@@ -8,6 +8,10 @@ mod host_tests;
 #[cfg(test)]
 mod line_tests;
 #[cfg(test)]
+mod printing_tests;
+#[cfg(test)]
+mod sound_tests;
+#[cfg(test)]
 mod tests;
 #[cfg(test)]
 mod wide;
