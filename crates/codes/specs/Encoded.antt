@@ -9,7 +9,7 @@ front cells n = take n cells
 abbrev pub padded : List ℕ → List ℕ
 padded bs = take 4 (bs ++ 0 ∷ 0 ∷ 0 ∷ 0 ∷ [])
 
--- there are n cells with the bytes of the code, or more, and zeros in the others
+-- there are n cells or more: the first n hold the bytes of the code, the others zeros
 abbrev pub IsPadded : List ℕ → ℕ → Type 0
 IsPadded cells n = (length (front cells n) ≡ n) × (padded (front cells n) ≡ cells)
 

@@ -3,7 +3,7 @@
 // The struct keeps that there is some proof that its view is sound, which asks nothing of the view but its meaning; what uses the
 // fact asks that there is one proof at most. A host's struct that names a `SoundView` over its own parameter has to repeat a bound:
 // `where Layer<V, K>: View<Store = V::Store> + SoundOnce` for a `SoundView<Layer<V, K>>`. One that takes its view as a parameter `V:
-// AlwaysSound` has not.
+// AlwaysSound` need not.
 ghost use Rattle.std.specs.Prelude.{◌≡◌};
 ghost use Rattle.std.specs.Coded.{Unit-prop};
 ghost use Rattle.sound.specs.Once.{kept};

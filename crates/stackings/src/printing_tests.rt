@@ -5,17 +5,22 @@ ghost use Rattle.view.specs.Seen.{text_at};
 ghost use Rattle.printing.specs.Visits.{VisitsRows};
 ghost use Rattle.printing.specs.Orders.{Obeyed, Arranged};
 
+use crate::checks::{check_shown, written};
 use buffer::buffer::Buffer;
 use buffer::fixed_buffer::FixedBuffer;
+use layer::layer::Layer;
+use layers::folds::Folds;
+use layers::hints::Hints;
 use printing::{orders, rows};
 use sound::always::AlwaysSound;
 use sound::sound_view::SoundView;
 use std::alloc::Global;
 use std::io;
-use std::test::Fail;
 use view::bare::Bare;
 use view::order::Order;
 use view::view::View;
+
+type Both = SoundView<Layer<Layer<Bare<FixedBuffer>, Hints>, Folds>>;
 
 fn each_row<V: AlwaysSound, F: FnMut(u32, String) -> anyhow::Result<()>>(
     heap: Global,
@@ -67,26 +72,24 @@ fn arrange<V: AlwaysSound, B: Buffer>(
 }
 
 #[test]
-fn views_sound_by_their_type(rt: HostRuntime) -> Result<(), Fail> {
-    let heap = rt.alloc();
-    let mut document = FixedBuffer::new();
-    document.edit(0, 0, &[97, 10, 98])?;
-    let mut view = SoundView::<Bare<FixedBuffer>>::open(FixedBuffer::new());
-    view.edit(0, 0, &[97, 10, 98])?;
-    let order = Order {
-        verb: 'f',
+fn printed(rt: HostRuntime) {
+    let document = written("N20 T1\nN40 Z1. R2.\n");
+    let mut view = Both::open(written("N20 T1\nN40 Z1. R2.\n"));
+    assert!(rt; arrange(&rt, &mut view, &document, 1, 0).is_ok());
+    check_shown(&rt, &view, "~\nN40 Z1. (depth) R2.\n");
+    let unfold = Order {
+        verb: 'u',
         x: 0,
-        y: 1,
+        y: 0,
     };
-    assert!(rt; print_order(&rt, "fold", &mut view, 0, order, &[]).is_ok());
-    assert!(rt; arrange(&rt, &mut view, &document, 1, 0).is_err());
+    assert!(rt; print_order(&rt, "unfold", &mut view, 0, unfold, &[]).is_ok());
+    check_shown(&rt, &view, "N20 T1\nN40 Z1. (depth) R2.\n");
     let mut last = 0u32;
-    let count = each_row(heap, &view, |start, _row| {
+    let count = each_row(rt.alloc(), &view, |start, _row| {
         last = start;
         Ok(())
     });
-    assert_eq!(rt; count.ok(), Some(2));
-    assert_eq!(rt; last, 2);
-    assert_eq!(rt; print_numbered(&rt, &view, &document).ok(), Some(2));
-    Ok(())
+    assert_eq!(rt; count.ok(), Some(3));
+    assert_eq!(rt; last, 27);
+    assert_eq!(rt; print_numbered(&rt, &view, &document).ok(), Some(3));
 }

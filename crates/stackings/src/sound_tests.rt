@@ -1,4 +1,4 @@
-// What a host may write over views that are sound by their type: it is asked nothing of the view, and asks it of nobody.
+// What a host may write over views that are sound by their type: nothing is asked of the view, here or of a caller.
 ghost use Rattle.std.specs.Prelude.{◌≡◌, ◌≤◌, length};
 ghost use Rattle.view.specs.Seen.{text_at};
 
@@ -11,7 +11,7 @@ use layers::folds::Folds;
 use layers::hints::Hints;
 use linewise::tabs::{Stops, Tabs};
 use linewise::width::Width;
-use linewise::wrap::{Breaks, Wrap};
+use linewise::wrap::Breaks;
 use sound::always::AlwaysSound;
 use sound::once::SoundOnce;
 use sound::sound_view::SoundView;
@@ -40,9 +40,7 @@ where
     }
 }
 
-type Marked<B> = Layer<Layer<Bare<B>, Hints>, Folds>;
-
-type Pile<B> = SoundView<Layer<Layer<Marked<B>, Tabs>, Wrap>>;
+type Pile<B> = SoundView<Layer<Layer<Bare<B>, Hints>, Tabs>>;
 
 // A part of the screen.
 #[derive(Drop)]
@@ -86,11 +84,11 @@ fn part_over<B: Buffer>(store: B) -> Part<Pile<B>> {
 #[test]
 fn parts_of_a_screen(rt: HostRuntime) {
     let mut part = part_over(written("ab\tc"));
-    part.fill(&rt, 3);
+    part.fill(&rt, 1);
     check_shown(&rt, &part.view, "yazb    c");
     let mut cells = [97, 98, 0];
     let mut lent = part_over(open(&mut cells, 2).buffer);
-    lent.fill(&rt, 3);
+    lent.fill(&rt, 1);
     check_shown(&rt, &lent.view, "yazb");
     assert_eq!(rt; [part.row, lent.row], [1, 1]);
 }
@@ -133,7 +131,7 @@ fn a_view_in_hand(rt: HostRuntime) {
 
 #[test]
 fn shown_anew(rt: HostRuntime) {
-    let view = SoundView::<Marked<FixedBuffer>>::open(written("ab\ncd"));
+    let view = SoundView::<Layer<Bare<FixedBuffer>, Hints>>::open(written("ab\ncd"));
     assert_eq!(rt; view.len(), 5);
     assert_eq!(rt; anew::<Stops, _>(&view, 4), 4);
     assert_eq!(rt; anew::<Breaks, _>(&view, 4), 3);
