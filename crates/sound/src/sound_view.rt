@@ -16,7 +16,7 @@ use view::order::Order;
 use view::view::{Meaning, View};
 
 // A view that was opened, and changed by the calls of View alone. Each call is that of the view inside, and costs the same.
-// stays: beside `Layer`, which keeps no such fact, so that a host's struct over its own parameter can hold one as it is
+// stays: beside `Layer`, which keeps no such fact, so that a host's struct over its own parameter can hold a layer as it is
 #[derive(Drop)]
 pub struct SoundView<V: Meaning> {
     view: V,
